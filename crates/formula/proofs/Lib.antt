@@ -1,0 +1,13 @@
+pub mod Tests
+pub mod Members
+pub mod Values
+pub mod Levels
+pub mod Turned
+pub mod Readable
+pub mod Decides
+pub mod Zeros
+pub mod Ranges
+pub mod Maps
+pub mod Arrays
+pub mod Adds
+pub mod Looked

@@ -1,0 +1,13 @@
+pub mod Lists
+pub mod Game
+pub mod Plans
+pub mod Truth
+pub mod Backward
+pub mod Examples
+pub mod Laws
+pub mod Sides
+pub mod Found
+pub mod Built
+pub mod Laid
+pub mod Model
+pub mod Proper

@@ -1,0 +1,10 @@
+pub mod Bytes
+pub mod Words
+pub mod Comments
+pub mod Faults
+pub mod Text
+pub mod Left
+pub mod Continues
+pub mod Lines
+pub mod Grammar
+pub mod Laws

@@ -1,0 +1,22 @@
+// Reads a formula from a text.
+mod blocks;
+mod bytes;
+mod clauses;
+mod comments;
+mod faults;
+mod header;
+mod numbers;
+mod positions;
+mod text;
+mod words;
+
+pub use faults::Layer;
+pub use faults::MAX_TEXT;
+pub use faults::TextFault;
+pub use faults::TextFromWord;
+pub use faults::WordFault;
+pub use positions::Position;
+pub use positions::position_of;
+pub use text::read;
+pub use words::Token;
+pub use words::Words;
