@@ -1,15 +1,15 @@
 -- A plan wins as specs/Plans says it just when its choices win as specs/Backward says it.
 use mathlib.Core.Path.{_≡_, refl, sym, subst, ap, _∙_}
-use mathlib.Core.List.{List, [], _∷_, _++_, nil≢cons}
+use mathlib.Core.List.{List, [], _∷_, _++_}
 use Prim.Native.Nat.{ℕ}
 use Rattle.formula.specs.Lists.{In}
 use Rattle.formula.specs.Game.{other, Clauses, Qbf, Values, choices, Play, PlayOf, winner}
-use Rattle.formula.specs.Plans.{sideAfter, Plan, Follows, Wins, CanWin}
-use Rattle.formula.specs.Backward.{onto, turned, Won, WinsFrom, orFirst, levelAfter}
+use Rattle.formula.specs.Plans.{sideAfter, Plan, Wins, CanWin}
+use Rattle.formula.specs.Backward.{onto, turned, WinsFrom, orFirst, levelAfter}
 use Rattle.formula.specs.declared.side.Side.{Side}
 use Rattle.formula.specs.declared.side.Side.the-variants.{Ours, Device}
 use Rattle.formula.proofs.Values.{or-first-choice, or-first-same}
-use Rattle.formula.proofs.Turned.{turned-turned, same-head, same-tail, ours-not-device, won-winner, winner-won, level-after}
+use Rattle.formula.proofs.Turned.{turned-turned, no-split, same-head, same-tail, ours-not-device, won-winner, winner-won, level-after}
 
 -- the levels left, with the play π of those before, newest first: what f chooses there are choices; ρ follows f there
 abbrev Chooses : (Play → Values) → Side → Side → Play → List (List ℕ) → Type 0
@@ -40,10 +40,6 @@ module _ (f : Play → Values) (w σ : Side) (π : Play) (x : Values) where
 backward : (C : Clauses) (f : Play → Values) (w σ : Side) (π : Play) (rest : List (List ℕ)) → Chooses f w σ π rest → WinsOn C f w σ π rest
     → WinsFrom C w (λ p. f (turned p)) σ rest π
 backward C f w σ π [] ch win = winner-won C w π (win [] tt (λ b x a e s. absurd (no-split b x a e)))
-  where
-    no-split : (b : Play) (x : Values) (a : Play) → [] ≡ b ++ (x ∷ a) → ⊥
-    no-split [] x a e = nil≢cons e
-    no-split (y ∷ b) x a e = nil≢cons e
 backward C f Ours Ours π (level ∷ rest) ch win =
     let m : In (f (turned π)) (choices level) = ch [] level rest [] refl refl tt in (
       m,
@@ -68,7 +64,7 @@ pub readable-backward : (q : Qbf) (w : Side) (plan : Plan q w) → Wins q w plan
 readable-backward q w plan win = backward (q .clauses) (plan .choose) w (q .first) [] (q .levels) (plan .of-the-level) win
 
 -- newest first, to level 1 on: the plan that chooses as f does, or the first choice of the level where f gives none
-abbrev madeTotal : List (List ℕ) → (Play → Values) → Play → Values
+abbrev pub madeTotal : List (List ℕ) → (Play → Values) → Play → Values
 madeTotal levels f p = orFirst (levelAfter levels p) (f (turned p))
 
 module _ (C : Clauses) (f : Play → Values) (levels : List (List ℕ)) where
@@ -80,7 +76,7 @@ module _ (C : Clauses) (f : Play → Values) (levels : List (List ℕ)) where
   total-same π level rest le m =
       ap (λ vs. orFirst vs (f (turned (turned π)))) (le []) ∙ ap (λ p. orFirst level (f p)) (turned-turned π) ∙ or-first-same level (f π) m
 
-  pub onward : (w σ : Side) (π : Play) (rest : List (List ℕ)) → Left π rest → WinsFrom C w f σ rest π → WinsOn C (madeTotal levels f) w σ π rest
+  onward : (w σ : Side) (π : Play) (rest : List (List ℕ)) → Left π rest → WinsFrom C w f σ rest π → WinsOn C (madeTotal levels f) w σ π rest
   onward w σ π [] le win [] p fo = won-winner C w π win
   onward w σ π [] le win (x ∷ ρ) p fo = absurd p
   onward w σ π (level ∷ rest) le win [] p fo = absurd p
@@ -105,5 +101,8 @@ planOf q w f = record {
       (sym (ap (λ l. levelAfter l π) e ∙ level-after before level after π p)) (or-first-choice level (f (turned π)));
 }
 
+pub plan-of-wins : (q : Qbf) (w : Side) (f : Play → Values) → WinsFrom (q .clauses) w f (q .first) (q .levels) [] → Wins q w (planOf q w f)
+plan-of-wins q w f win = onward (q .clauses) f (q .levels) w (q .first) [] (q .levels) (λ ρ. refl) win
+
 pub backward-readable : (q : Qbf) (w : Side) (f : Play → Values) → WinsFrom (q .clauses) w f (q .first) (q .levels) [] → CanWin q w
-backward-readable q w f win = (planOf q w f, onward (q .clauses) f (q .levels) w (q .first) [] (q .levels) (λ ρ. refl) win)
+backward-readable q w f win = (planOf q w f, plan-of-wins q w f win)

@@ -1,12 +1,12 @@
 -- Lemmas on tests, and on sets of clauses as lists of numbers.
-use mathlib.Core.Path.{_≡_, refl, sym, subst, ap, ap₂}
-use mathlib.Core.List.{List, [], _∷_, _++_}
+use mathlib.Core.Path.{_≡_, refl, sym, subst}
+use mathlib.Core.List.{List, [], _∷_}
 use mathlib.Core.Bool.{Bool, true, false, not, _&&_, _||_, cond}
 use mathlib.Core.Logic.{_⊎_, inl, inr, ⊎-elim}
 use Prim.Native.Nat.{ℕ, zero, suc, _+_, _<_, _≤_}
 use native.Mathlib.Omega.{arith}
 use lib.Dec.{T, eqb, eqb→eq, eqb-refl}
-use Rattle.formula.specs.Lists.{all, any, keep, In, All, Any, each, elem, from, below}
+use Rattle.formula.specs.Lists.{all, keep, elem, from, below}
 
 pub dec : (b : Bool) → T b ⊎ T (not b)
 dec true = inl tt

@@ -1,12 +1,11 @@
 -- Plays with the newest level first against plays from level 1 on: lists turned round, and who wins them.
 use mathlib.Core.Path.{_≡_, refl, sym, subst, ap, _∙_}
-use mathlib.Core.List.{List, [], _∷_, _++_}
-use mathlib.Core.Bool.{Bool, true, false, not, _||_, cond}
+use mathlib.Core.List.{List, [], _∷_, _++_, nil≢cons}
+use mathlib.Core.Bool.{Bool, true, false, _||_, cond}
 use Prim.Native.Nat.{ℕ}
-use lib.Dec.{T}
 use lib.ListN.{length}
 use Rattle.formula.specs.Lists.{below}
-use Rattle.formula.specs.Game.{Clauses, Values, Play, PlayOf, hits, hit, everyHit, winner}
+use Rattle.formula.specs.Game.{Clauses, Play, PlayOf, hits, hit, everyHit, winner}
 use Rattle.formula.specs.Backward.{onto, turned, For, Won, levelAfter}
 use Rattle.formula.specs.declared.side.Side.{Side}
 use Rattle.formula.specs.declared.side.Side.the-variants.{Ours, Device}
@@ -31,6 +30,10 @@ module _ {A : Type 0} where
 
   pub same-tail : (x y : A) (l m : List A) → x ∷ l ≡ y ∷ m → l ≡ m
   same-tail x y l m e = ap tail e
+
+  pub no-split : (b : List A) (x : A) (a : List A) → [] ≡ b ++ (x ∷ a) → ⊥
+  no-split [] x a e = nil≢cons e
+  no-split (y ∷ b) x a e = nil≢cons e
 
 -- who wins does not depend on the order of the levels
 hit-onto : (C : Clauses) (π ρ : Play) (i : ℕ) → hit C (onto π ρ) i ≡ hit C π i || hit C ρ i

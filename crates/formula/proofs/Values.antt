@@ -1,9 +1,9 @@
 -- Equality of values as a test, and the choices of a level.
-use mathlib.Core.Path.{_≡_, refl, sym, subst, ap, ap₂}
+use mathlib.Core.Path.{_≡_, refl, sym, subst, ap}
 use mathlib.Core.List.{List, [], _∷_, _++_}
-use mathlib.Core.Bool.{Bool, true, false, _&&_, _||_, cond}
+use mathlib.Core.Bool.{Bool, true, false, _||_, cond}
 use mathlib.Core.Logic.{_⊎_, inl, inr, ⊎-elim}
-use Prim.Native.Nat.{ℕ, suc, _^_}
+use Prim.Native.Nat.{ℕ, _^_}
 use native.Mathlib.Nat.{pow-suc}
 use native.Mathlib.Omega.{arith}
 use lib.Dec.{T, eqb→eq, eqb-refl}
@@ -39,12 +39,12 @@ choices-length (v ∷ vs) =
     )
 
 -- which values are choices of a level
-in-append : {A : Type 0} (x : A) (l m : List A) → In x (l ++ m) → In x l ⊎ In x m
+pub in-append : {A : Type 0} (x : A) (l m : List A) → In x (l ++ m) → In x l ⊎ In x m
 in-append x [] m h = inr h
 in-append x (y ∷ l) m (inl e) = inl (inl e)
 in-append x (y ∷ l) m (inr h) = ⊎-elim (λ k. inl (inr k)) (λ k. inr k) (in-append x l m h)
 
-in-each : {A B : Type 0} (f : A → B) (y : B) (l : List A) → In y (each f l) → (x : A) × In x l × (y ≡ f x)
+pub in-each : {A B : Type 0} (f : A → B) (y : B) (l : List A) → In y (each f l) → (x : A) × In x l × (y ≡ f x)
 in-each f y [] h = absurd h
 in-each f y (x ∷ l) (inl e) = (x, inl refl, e)
 in-each {A = A} f y (x ∷ l) (inr h) = let c : (z : A) × In z l × (y ≡ f z) = in-each f y l h in (c .0, inr (c .1), c .2)

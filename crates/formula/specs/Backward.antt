@@ -4,7 +4,7 @@ use mathlib.Core.List.{List, [], _∷_}
 use mathlib.Core.Bool.{Bool, true, false, not, _&&_, _||_, cond}
 use Prim.Native.Nat.{ℕ}
 use lib.Dec.{T}
-use lib.IntN.{ℤ, pos, negℤ}
+use lib.IntN.{pos, negℤ}
 use Rattle.formula.specs.Lists.{In, each}
 use Rattle.formula.specs.Game.{same, Clauses, Values, choices, Play, everyHit}
 use Rattle.formula.specs.declared.side.Side.{Side}

@@ -5,3 +5,14 @@ pub mod Tokens
 pub mod Lining
 pub mod Spacing
 pub mod Preambles
+pub mod WordKinds
+pub mod Spelled
+pub mod Headers
+pub mod Traced
+pub mod HeaderTraced
+pub mod Bindings
+pub mod Leveling
+pub mod BlocksTaken
+pub mod ClausesTaken
+pub mod Writings
+pub mod ReadWrites

@@ -39,7 +39,7 @@ through-comment (b ∷ line) rest n h =
     ∙ ap (λ m. wordsFrom Line m rest) e
 
 -- not in a comment
-abbrev Early : Lead → Type 0
+abbrev pub Early : Lead → Type 0
 Early Line = Unit {0}
 Early Blanks = Unit {0}
 Early Comment = ⊥

@@ -8,3 +8,5 @@ pub mod Continues
 pub mod Lines
 pub mod Grammar
 pub mod Laws
+pub mod Taking
+pub mod Examples

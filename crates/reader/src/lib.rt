@@ -8,6 +8,7 @@ mod header;
 mod numbers;
 mod positions;
 mod text;
+mod theorems;
 mod words;
 
 pub use faults::Layer;
@@ -20,3 +21,9 @@ pub use positions::position_of;
 pub use text::read;
 pub use words::Token;
 pub use words::Words;
+pub use theorems::a_false_text;
+pub use theorems::a_true_text;
+pub use theorems::long_texts_are_refused;
+pub use theorems::small_numbers;
+pub use theorems::small_texts;
+pub use theorems::what_is_read_is_written;

@@ -10,6 +10,9 @@ ghost use Rattle.reader.specs.Words.{said, first};
 ghost use Rattle.reader.specs.Text.{between, blockSide, reading, headed, reads, ofDevice, afterDevice};
 ghost use Rattle.reader.specs.Text.{clauses as clauses′};
 ghost use Rattle.reader.specs.Left.{left, size, drawn, formulaIn};
+ghost use Rattle.reader.specs.Grammar.{Writes};
+ghost use Rattle.formula.specs.Game.{Qbf};
+ghost use Rattle.formula.specs.Model.{qbf};
 ghost use Rattle.reader.specs.Continues.{Goes, Fails};
 ghost use Rattle.formula.specs.Built.{Built};
 use crate::blocks::read_blocks;
@@ -100,7 +103,8 @@ fn read_words(words: &mut Words) -> Result<Formula, TextFault>
 
 // Reads a formula, or finds the first fault of the text.
 pub fn read(text: &[u8]) -> Result<Formula, TextFault>
-    ensures { λ r. ⌜ formulaIn r ≡ reads (now (text .entry)) ⌝ }
+    ensures result { λ r. ⌜ formulaIn r ≡ reads (now (text .entry)) ⌝ }
+    ensures writes { λ r. ⌜ Cases r (λ f. Writes (now (text .entry)) (qbf (f .parts))) (λ _. (q : Qbf) → Writes (now (text .entry)) q → ⊥) ⌝ }
 {
     if text.len() > MAX_TEXT {
         return Err(TextFault::Word(WordFault::TooLong));

@@ -1,0 +1,16 @@
+pub mod Entries
+pub mod RecordedPlan
+pub mod Signals
+pub mod Records
+pub mod WellFormed
+pub mod Questions
+pub mod Steps
+pub mod Next
+pub mod Check
+pub mod View
+pub mod Meaning
+pub mod Potential
+pub mod Counts
+pub mod Examples
+pub mod Laws
+pub mod Connections
