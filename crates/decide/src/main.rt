@@ -26,7 +26,10 @@ fn run(rt: &LibcRuntime) -> Result<bool, AnyError> {
             let column = place.column;
             let why = FaultText { fault };
             eprintln!(rt, "{why}")?;
-            eprintln!(rt, "found at line {line}, column {column} (byte {offset} of the text)")?;
+            eprintln!(
+                rt,
+                "found at line {line}, column {column} (byte {offset} of the text)"
+            )?;
             Ok(false)
         }
     }

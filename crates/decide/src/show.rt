@@ -40,7 +40,10 @@ pub fn print_formula(rt: &LibcRuntime, formula: &Formula) -> io::Result<()> {
     let bound = formula.bound_variables();
     let clauses = formula.clauses();
     let levels = formula.levels();
-    println!(rt, "{variables} variables, {bound} of them bound; {levels} levels; {clauses} clauses")?;
+    println!(
+        rt,
+        "{variables} variables, {bound} of them bound; {levels} levels; {clauses} clauses"
+    )?;
     for level in 1..levels + 1 {
         print_level(rt, formula, level)?;
     }

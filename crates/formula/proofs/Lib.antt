@@ -11,3 +11,4 @@ pub mod Maps
 pub mod Arrays
 pub mod Adds
 pub mod Looked
+pub mod ProperFormula

@@ -63,9 +63,7 @@ impl Draft {
     pub fn level_is_empty(&self) -> bool
         ensures { λ r. ⌜ r ≡ emptyLevel (built (now (self .entry) .parts)) ⌝ }
     {
-        self.parts
-            .next_variable(self.parts.levels, 0)
-            .is_none()
+        self.parts.next_variable(self.parts.levels, 0).is_none()
     }
 
     // The side of the present level.

@@ -18,6 +18,7 @@ pub use limits::MAX_VARIABLES;
 pub use parts::Parts;
 pub use side::Side;
 pub use side::SidePartialEq;
+pub use theorems::formulas_are_proper;
 pub use theorems::truth_is_a_winning_plan;
 pub use theorems::truths_of_small_formulas;
 pub use theorems::winners_of_small_plays;

@@ -158,8 +158,19 @@ same-first false σ = refl
 
 took-none : (b b′ : Built) → b ≡ b′ → Took [] b b′
 took-none b b′ e = subst (Took [] b) e record {
-  variables = refl; levels = sym (add-zero (b .levels)); bound = refl; clauses = refl; pending = refl; literals = refl;
-  first = sym (same-first (eqb (b .levels) 0) (b .first)); last = refl; few = λ h. h; filled = λ h. absurd (omega arith); free = tt; none-empty = tt; after = tt;
+  variables = refl;
+  levels = sym (add-zero (b .levels));
+  bound = refl;
+  clauses = refl;
+  pending = refl;
+  literals = refl;
+  first = sym (same-first (eqb (b .levels) 0) (b .first));
+  last = refl;
+  few = λ h. h;
+  filled = λ h. absurd (omega arith);
+  free = tt;
+  none-empty = tt;
+  after = tt;
 }
 
 -- the order of sides, by the side before

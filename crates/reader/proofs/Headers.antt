@@ -49,9 +49,11 @@ module _ (n : ℕ) (wn wk : List ℕ) (body : List (List ℕ)) (v k : ℕ) (nv :
       let first : pDue (saidOf a) ≡ Ok tt = ap (λ x. pDue (saidOf (record { bytes = x; place = a .place }))) p in
       let second : cnfDue (saidOf b) ≡ Ok tt = ap (λ x. cnfDue (saidOf (record { bytes = x; place = b .place }))) cnf in
       let third : countDue 256 (saidOf c) ≡ Ok v = count-said 256 c v (subst (λ x. Numeral x (pos v)) (sym en) nv) few-v in
-      let fourth : countDue 512 (saidOf d) ≡ Ok k = count-said 512 d k (subst (λ x. Numeral x (pos k)) (sym ek) nk) few-k in
-      (ws, same,
-      ap (λ r. andThen r (λ _. andThen (cnfDue (saidOf b)) (λ _. andThen (countDue 256 (saidOf c)) (λ x. andThen (countDue 512 (saidOf d)) (λ y. reading y n between (blank x) ws))))) first
-      ∙ ap (λ r. andThen r (λ _. andThen (countDue 256 (saidOf c)) (λ x. andThen (countDue 512 (saidOf d)) (λ y. reading y n between (blank x) ws)))) second
-      ∙ ap (λ r. andThen r (λ x. andThen (countDue 512 (saidOf d)) (λ y. reading y n between (blank x) ws))) third
-      ∙ ap (λ r. andThen r (λ y. reading y n between (blank v) ws)) fourth)
+      let fourth : countDue 512 (saidOf d) ≡ Ok k = count-said 512 d k (subst (λ x. Numeral x (pos k)) (sym ek) nk) few-k in (
+        ws,
+        same,
+        ap (λ r. andThen r (λ _. andThen (cnfDue (saidOf b)) (λ _. andThen (countDue 256 (saidOf c)) (λ x. andThen (countDue 512 (saidOf d)) (λ y. reading y n between (blank x) ws))))) first
+            ∙ ap (λ r. andThen r (λ _. andThen (countDue 256 (saidOf c)) (λ x. andThen (countDue 512 (saidOf d)) (λ y. reading y n between (blank x) ws)))) second
+            ∙ ap (λ r. andThen r (λ x. andThen (countDue 512 (saidOf d)) (λ y. reading y n between (blank x) ws))) third
+            ∙ ap (λ r. andThen r (λ y. reading y n between (blank v) ws)) fourth,
+      )

@@ -121,17 +121,23 @@ moved n m t ws e f = subst (λ k. Found k t ws) e f
 -- a line in front of a preamble
 with-comment : (n : ℕ) (t : List ℕ) (ws : List Word) → InComment (suc n) t ws → Found n (99 ∷ t) ws
 with-comment n t ws (line, rest, e, h, (front, body, f, p, is)) =
-    let k : suc n + length line + 1 + length front ≡ n + length (99 ∷ (line ++ (10 ∷ front))) = omega (arith, length-append line (10 ∷ front)) in
-    (99 ∷ (line ++ (10 ∷ front)), body,
-    ap (λ x. 99 ∷ x) (e ∙ ap (λ r. line ++ (10 ∷ r)) f ∙ sym (append-assoc line (10 ∷ front) body)),
-    comment line front h p, ap (λ m. words m body) (sym k) ∙ is)
+    let k : suc n + length line + 1 + length front ≡ n + length (99 ∷ (line ++ (10 ∷ front))) = omega (arith, length-append line (10 ∷ front)) in (
+      99 ∷ (line ++ (10 ∷ front)),
+      body,
+      ap (λ x. 99 ∷ x) (e ∙ ap (λ r. line ++ (10 ∷ r)) f ∙ sym (append-assoc line (10 ∷ front) body)),
+      comment line front h p,
+      ap (λ m. words m body) (sym k) ∙ is,
+    )
 
 with-blanks : (n : ℕ) (line rest : List ℕ) (ws : List Word) → T (all blank line) → Found (n + length line + 1) rest ws → Found n (line ++ (10 ∷ rest)) ws
 with-blanks n line rest ws h (front, body, f, p, is) =
-    let k : n + length line + 1 + length front ≡ n + length (line ++ (10 ∷ front)) = omega (arith, length-append line (10 ∷ front)) in
-    (line ++ (10 ∷ front), body,
-    ap (λ r. line ++ (10 ∷ r)) f ∙ sym (append-assoc line (10 ∷ front) body),
-    blank-line line front h p, ap (λ m. words m body) (sym k) ∙ is)
+    let k : n + length line + 1 + length front ≡ n + length (line ++ (10 ∷ front)) = omega (arith, length-append line (10 ∷ front)) in (
+      line ++ (10 ∷ front),
+      body,
+      ap (λ r. line ++ (10 ∷ r)) f ∙ sym (append-assoc line (10 ∷ front) body),
+      blank-line line front h p,
+      ap (λ m. words m body) (sym k) ∙ is,
+    )
 
 -- a blank before what goes on with blanks
 blank-on : (b n : ℕ) (t : List ℕ) (ws : List Word) → T (blank b) → InBlanks (suc n) t ws → InBlanks n (b ∷ t) ws

@@ -195,19 +195,21 @@ module _ (v : ℕ) (few : v ≤ 256) (k : ℕ) (few-k : k ≤ 512) (q : Qbf) whe
       let t : Took ls (blank v) b = took ls (blank v) b (blank-room v few) (λ u. zeros-le 257 u 0) blocks in
       let c = clauses-taken cs b b′ (t .pending) taken in
       let well : endsWell b ≡ true = finished (clausesTo cs b) (ap mayFinish (c .0) ∙ may) in
-      let d = free-distinct v (blank v .bound) (allVariables ls) (t .free) in
-      (record {
-        few-variables = few;
-        few-clauses = omega arith;
-        few-blocks = omega (arith, t .few (omega arith), t .levels);
-        few-literals = omega (arith, c .2 (omega (arith, t .literals)), t .literals);
-        none-empty = t .none-empty;
-        alternate = after-alternate ls (t .after);
-        last-ours = ours-or-none ls refl t well;
-        declared = d .0;
-        bound-once = d .1;
-        all-bound = literals-bound v few ls b t cs (c .1);
-      }, is ∙ ap qbfOf (sym (c .0)) ∙ built-is v few ls b t cs)
+      let d = free-distinct v (blank v .bound) (allVariables ls) (t .free) in (
+        record {
+          few-variables = few;
+          few-clauses = omega arith;
+          few-blocks = omega (arith, t .few (omega arith), t .levels);
+          few-literals = omega (arith, c .2 (omega (arith, t .literals)), t .literals);
+          none-empty = t .none-empty;
+          alternate = after-alternate ls (t .after);
+          last-ours = ours-or-none ls refl t well;
+          declared = d .0;
+          bound-once = d .1;
+          all-bound = literals-bound v few ls b t cs (c .1);
+        },
+        is ∙ ap qbfOf (sym (c .0)) ∙ built-is v few ls b t cs,
+      )
     where
       ours-or-none : (ks : List Block) → ls ≡ ks → Took ls (blank v) b → endsWell b ≡ true → LastBlockOurs ls
       ours-or-none [] e t w = subst LastBlockOurs (sym e) tt
@@ -226,12 +228,24 @@ read-is-written t q e = ⊎-elim (λ long. absurd (no-fault _ q (sym (cond-true 
             let h : Headed (length t) q (w ∷ xs) = header-traced (length t) q (w ∷ xs) (sym (reads-words t short ∙ ap (headed (length t)) x) ∙ e) in
             let whole : Whole (h .k) (bytesOf (h .left)) (blank (h .v)) q = traced (h .k) (length t) (h .left) q between (blank (h .v)) (h .reads) in
             let tail : Tail (h .k) (whole .1) (whole .2) q = whole .5 in
-            let a = accepted (h .v) (h .few-variables) (h .k) (h .few-clauses) q (whole .0) (tail .0) (whole .2) (tail .1) (tail .2) (whole .4) (tail .4) (tail .5) (tail .6) in
-            (bytesOf (w ∷ xs), record { variables = h .v; blocks = whole .0; clauses = tail .0 }, words-said t short w xs x,
-            record {
-              variables-word = h .wn; clauses-word = h .wk; body = bytesOf (h .left); middle = whole .1; header = h .is; variables = h .variables;
-              clauses = subst (λ k. Numeral (h .wk) (pos k)) (sym (tail .2)) (h .clauses); blocks = whole .3; rest = tail .3;
-            }, a .0, a .1)
+            let a = accepted (h .v) (h .few-variables) (h .k) (h .few-clauses) q (whole .0) (tail .0) (whole .2) (tail .1) (tail .2) (whole .4) (tail .4) (tail .5) (tail .6) in (
+              bytesOf (w ∷ xs),
+              record { variables = h .v; blocks = whole .0; clauses = tail .0 },
+              words-said t short w xs x,
+              record {
+                variables-word = h .wn;
+                clauses-word = h .wk;
+                body = bytesOf (h .left);
+                middle = whole .1;
+                header = h .is;
+                variables = h .variables;
+                clauses = subst (λ k. Numeral (h .wk) (pos k)) (sym (tail .2)) (h .clauses);
+                blocks = whole .3;
+                rest = tail .3;
+              },
+              a .0,
+              a .1,
+            )
 
 -- what is written is read
 pub written-is-read : (t : List ℕ) (q : Qbf) → Writes t q → reads t ≡ Ok q

@@ -67,7 +67,7 @@ fn read_block(words: &mut Words, draft: &mut Draft) -> Result<(), TextFault>
 }
 
 // All blocks. What is left begins with the word that begins no block.
-pub fn read_blocks(words: &mut Words, draft: &mut Draft) -> Result<(), TextFault>
+pub(crate) fn read_blocks(words: &mut Words, draft: &mut Draft) -> Result<(), TextFault>
     ensures size { λ _. ⌜ size (now (words .exit)) ≡ size (now (words .entry)) ⌝ }
     ensures whole { λ _. ⌜ drawn (now (draft .exit)) .clauses ≡ drawn (now (draft .entry)) .clauses ⌝ }
     ensures stops { λ r. ⌜ (isOk r ≡ true → blockSide (first (size (now (words .exit))) (left (now (words .exit)))) ≡ None) ⌝ }

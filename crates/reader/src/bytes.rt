@@ -5,13 +5,13 @@ ghost use Rattle.std.specs.Options.{Cases as BySome};
 ghost use Rattle.reader.specs.Bytes.{blank, lower, plain, numberOf};
 
 // Space, tab, carriage return and line feed stand between words.
-pub fn is_blank(b: u8) -> bool
+pub(crate) fn is_blank(b: u8) -> bool
     ensures { λ r. ⌜ r ≡ blank b ⌝ }
 {
     b == b' ' || b == b'\t' || b == b'\r' || b == b'\n'
 }
 
-pub fn is_lower(b: u8) -> bool
+pub(crate) fn is_lower(b: u8) -> bool
     ensures { λ r. ⌜ r ≡ lower b ⌝ }
 {
     b >= b'a' && b <= b'z'
@@ -36,7 +36,7 @@ fn digits(word: &[u8]) -> Option<u32>
 }
 
 // 0, or one to nine digits with no leading zero; a minus may stand before any but 0.
-pub fn number(word: &[u8]) -> Option<i32>
+pub(crate) fn number(word: &[u8]) -> Option<i32>
     ensures { λ r. ⌜ r ≡ numberOf (now (word .entry)) ⌝ }
 {
     if word.len() == 1 && word[0] == b'0' {

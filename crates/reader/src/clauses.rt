@@ -49,7 +49,11 @@ fn read_clause(words: &mut Words, draft: &mut Draft) -> Result<(), TextFault>
 }
 
 // So many clauses.
-pub fn read_clauses(words: &mut Words, draft: &mut Draft, count: usize) -> Result<(), TextFault>
+pub(crate) fn read_clauses(
+    words: &mut Words,
+    draft: &mut Draft,
+    count: usize,
+) -> Result<(), TextFault>
     requires { ⌜ length (drawn (now draft) .clauses) + count ≤ 512 ⌝ }
     ensures size { λ _. ⌜ size (now (words .exit)) ≡ size (now (words .entry)) ⌝ }
     ensures reads { λ r. ⌜ Cases r (λ _. Goes (size (now (words .entry))) (clauses count) (drawn (now (draft .entry))) (left (now (words .entry))) (clauses 0) (drawn (now (draft .exit))) (left (now (words .exit)))) (Fails (size (now (words .entry))) (clauses count) (drawn (now (draft .entry))) (left (now (words .entry)))) ⌝ }

@@ -20,7 +20,11 @@ fn past_blank(b: u8) -> Option<Lead>
     if b == b'\n' {
         return Some(Lead::Line);
     }
-    if is_blank(b) { Some(Lead::Blanks) } else { None }
+    if is_blank(b) {
+        Some(Lead::Blanks)
+    } else {
+        None
+    }
 }
 
 // How the byte after b stands; None where b begins the first word.
@@ -47,7 +51,7 @@ fn past(lead: Lead, b: u8) -> Option<Lead>
 }
 
 // Where the words of a text begin.
-pub fn skip_comments(text: &[u8]) -> usize
+pub(crate) fn skip_comments(text: &[u8]) -> usize
     ensures within { λ r. ⌜ r ≤ length (now (text .entry)) ⌝ }
     ensures words { λ r. ⌜ leftAt (now (text .entry)) r ≡ textWords (now (text .entry)) ⌝ }
 {

@@ -76,7 +76,7 @@ fn count_due(token: Token, limit: usize) -> Result<usize, TextFault>
     counted(numeral, limit)
 }
 
-pub fn read_header(words: &mut Words) -> Result<Header, TextFault>
+pub(crate) fn read_header(words: &mut Words) -> Result<Header, TextFault>
     ensures size { λ _. ⌜ size (now (words .exit)) ≡ size (now (words .entry)) ⌝ }
     ensures reads { λ r. ⌜ Cases r (λ h. (h .variables ≤ 256) × (h .clauses ≤ 512) × (headed (size (now (words .entry))) (left (now (words .entry))) ≡ reading (h .clauses) (size (now (words .entry))) between (blank (h .variables)) (left (now (words .exit))))) (λ e. headed (size (now (words .entry))) (left (now (words .entry))) ≡ Err e) ⌝ }
 {

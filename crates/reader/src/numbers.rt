@@ -16,7 +16,7 @@ pub struct Numeral {
 }
 
 // The number that is due here.
-pub fn due_number(token: Token) -> Result<Numeral, WordFault>
+pub(crate) fn due_number(token: Token) -> Result<Numeral, WordFault>
     ensures { λ r. ⌜ Cases r (λ n. (due (said (token .entry)) ≡ Ok (n .value)) × (n .at ≡ placeOf (said (token .entry)))) (λ e. due (said (token .entry)) ≡ Err (Word e)) ⌝ }
 {
     match token {

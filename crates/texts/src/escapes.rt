@@ -49,7 +49,9 @@ fn repeat(out: &mut Vec<u8>, part: &[u8]) -> Result<(), AllocError> {
             }
             return Ok(());
         }
-        count = count.saturating_mul(10).saturating_add(u32::from(hex_digit(*b)));
+        count = count
+            .saturating_mul(10)
+            .saturating_add(u32::from(hex_digit(*b)));
     }
     Ok(())
 }

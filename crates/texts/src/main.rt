@@ -27,7 +27,10 @@ fn outcome(heap: Global, text: &[u8]) -> Result<String, AllocError> {
             let clauses = formula.clauses();
             let bound = formula.bound_variables();
             let levels = formula.levels();
-            format!(heap, "reads: n {variables}, k {clauses}, q {bound}, L {levels}")
+            format!(
+                heap,
+                "reads: n {variables}, k {clauses}, q {bound}, L {levels}"
+            )
         }
         Err(fault) => {
             let number = fault.number();

@@ -26,9 +26,10 @@ add-n c = omega (arith, ten-top (c .loop-b .n) (c .loop-b .b-index) 8 (c .loop-b
 
 pub loop-b-again : need.loop-b-again
 loop-b-again c =
-    let yes : digit (getD (c .args .word .now) (c .loop-b .b-index) 0) ≡ true = grind (arith, tells) in
-    (ten-more _ _ _ (c .loop-b .inv .0) (omega arith),
-     ap (λ d. readOn (c .loop-b .n * 10 + d) (drop (c .loop-b .b-index + 1) (c .args .word .now))) (c .from .ensures) ∙ sym (read-more _ _ _ (c .loop-b-test .taken) yes) ∙ c .loop-b .inv .1)
+    let yes : digit (getD (c .args .word .now) (c .loop-b .b-index) 0) ≡ true = grind (arith, tells) in (
+      ten-more _ _ _ (c .loop-b .inv .0) (omega arith),
+      ap (λ d. readOn (c .loop-b .n * 10 + d) (drop (c .loop-b .b-index + 1) (c .args .word .now))) (c .from .ensures) ∙ sym (read-more _ _ _ (c .loop-b-test .taken) yes) ∙ c .loop-b .inv .1,
+    )
 
 pub returns : need.returns
 returns c = record {

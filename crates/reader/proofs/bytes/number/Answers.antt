@@ -13,6 +13,6 @@ returns-then-word-eq45 c =
     let rest = take-rest (c .args .word .now) 1 in
     let out = minus-is (c .args .word .now) (c .if-word-eq45 .taken) in
     elim (c .match-digits .came) [
-      in-Some w ↦ w .result-is ∙ ap Some (neg-is _ (w .in-Some .ensures tt .small)) ∙ ap (mapped (λ n. negℤ (pos n))) (w .in-Some .ensures tt .value ∙ ap plain rest) ∙ sym out
-    | in-None w ↦ w .result-is ∙ ap (mapped (λ n. negℤ (pos n))) (w .in-None .ensures tt .value ∙ ap plain rest) ∙ sym out
+      | in-Some w ↦ w .result-is ∙ ap Some (neg-is _ (w .in-Some .ensures tt .small)) ∙ ap (mapped (λ n. negℤ (pos n))) (w .in-Some .ensures tt .value ∙ ap plain rest) ∙ sym out
+      | in-None w ↦ w .result-is ∙ ap (mapped (λ n. negℤ (pos n))) (w .in-None .ensures tt .value ∙ ap plain rest) ∙ sym out
     ]

@@ -13,12 +13,18 @@ loop-b-again c =
     let bs = take (c .min .result - 0) (c .args .text .now) in
     let i = c .loop-b .b-index in
     elim (c .if-b-eq10 .came) [
-      then-b-eq10 w ↦ (omega (arith, w .line-is), omega (arith, w .column-is),
+      | then-b-eq10 w ↦ (
+        omega (arith, w .line-is),
+        omega (arith, w .column-is),
         ap (λ m. after m (c .if-b-eq10 .column) (drop (i + 1) bs)) (w .line-is) ∙ ap (λ m. after (c .loop-b .line + 1) m (drop (i + 1) bs)) (w .column-is)
-        ∙ sym (after-feed (c .loop-b .line) (c .loop-b .column) bs i (c .loop-b-test .taken) (w .if-b-eq10 .taken)) ∙ c .loop-b .inv .2)
-    | else-b-eq10 w ↦ (omega (arith, w .line-is), omega (arith, w .column-is),
+            ∙ sym (after-feed (c .loop-b .line) (c .loop-b .column) bs i (c .loop-b-test .taken) (w .if-b-eq10 .taken)) ∙ c .loop-b .inv .2,
+      )
+      | else-b-eq10 w ↦ (
+        omega (arith, w .line-is),
+        omega (arith, w .column-is),
         ap (λ m. after m (c .if-b-eq10 .column) (drop (i + 1) bs)) (w .line-is) ∙ ap (λ m. after (c .loop-b .line) m (drop (i + 1) bs)) (w .column-is)
-        ∙ sym (after-byte (c .loop-b .line) (c .loop-b .column) bs i (c .loop-b-test .taken) (w .if-b-eq10 .left)) ∙ c .loop-b .inv .2)
+            ∙ sym (after-byte (c .loop-b .line) (c .loop-b .column) bs i (c .loop-b-test .taken) (w .if-b-eq10 .left)) ∙ c .loop-b .inv .2,
+      )
     ]
 
 pub returns : need.returns

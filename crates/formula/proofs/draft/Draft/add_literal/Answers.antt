@@ -22,14 +22,25 @@ ghost-self c =
     let l = toZ w32 (ofZ w32 (c .args .literal)) in
     let inside : p .count < length (p .literals) = search needs in
     let is : natAbs l ≡ c .unsigned-abs-variable .result = sym (c .unsigned-abs-variable .ensures .value) in
-    let here : 0 < getD (p .bound) (natAbs l) 0 = subst (λ v. 0 < getD (p .bound) v 0) (sym is) (omega arith) in
-    ((omega arith, omega arith, omega arith, omega arith),
-    (old .ordered,
-    ((old .ends .0, omega (arith, old .ends .1)),
-    (old .declared,
-    (old .leveled,
-    ((λ j h. written (λ u x. u < p .count + 1 → 0 < getD (p .bound) (natAbs x) 0) (p .literals) (p .count) l (pos 0) inside (λ _. here) (λ u n k. old .closed u (omega arith)) j h),
-    (old .filled, tt)))))))
+    let here : 0 < getD (p .bound) (natAbs l) 0 = subst (λ v. 0 < getD (p .bound) v 0) (sym is) (omega arith) in (
+      (omega arith, omega arith, omega arith, omega arith),
+      (
+        old .ordered,
+        (
+          (old .ends .0, omega (arith, old .ends .1)),
+          (
+            old .declared,
+            (
+              old .leveled,
+              (
+                (λ j h. written (λ u x. u < p .count + 1 → 0 < getD (p .bound) (natAbs x) 0) (p .literals) (p .count) l (pos 0) inside (λ _. here) (λ u n k. old .closed u (omega arith)) j h),
+                (old .filled, tt),
+              ),
+            ),
+          ),
+        ),
+      ),
+    )
 
 pub returns : need.returns
 returns c =

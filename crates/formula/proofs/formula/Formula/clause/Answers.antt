@@ -32,9 +32,10 @@ pub returns : need.returns
 returns c =
     let p = c .args .self .now .parts in
     let i = c .args .number in
-    let back : i - 1 + 1 ≡ i = omega arith in
-    (c .if-number-lt1 .left,
-    omega (arith, c .if-number-self .left, count-clauses (clauseIn (p .literals) (p .ends)) (p .clauses)),
-    c .part .ensures
-    ∙ ap (λ n. take (getD (p .ends) n 0 - getD (p .ends) (i - 1) 0) (drop (getD (p .ends) (i - 1) 0) (p .literals))) (sym back)
-    ∙ sym (clause-there (qbf p) (clauseIn (p .literals) (p .ends)) (p .clauses) refl i (c .if-number-lt1 .left) (c .if-number-self .left)))
+    let back : i - 1 + 1 ≡ i = omega arith in (
+      c .if-number-lt1 .left,
+      omega (arith, c .if-number-self .left, count-clauses (clauseIn (p .literals) (p .ends)) (p .clauses)),
+      c .part .ensures
+          ∙ ap (λ n. take (getD (p .ends) n 0 - getD (p .ends) (i - 1) 0) (drop (getD (p .ends) (i - 1) 0) (p .literals))) (sym back)
+          ∙ sym (clause-there (qbf p) (clauseIn (p .literals) (p .ends)) (p .clauses) refl i (c .if-number-lt1 .left) (c .if-number-self .left)),
+    )

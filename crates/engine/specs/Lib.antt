@@ -1,0 +1,5 @@
+pub mod Truth
+pub mod Meaning
+pub mod Count
+pub mod Theorems
+pub mod Asking

@@ -1,0 +1,4 @@
+pub mod Chains
+pub mod Tested
+pub mod Kept
+pub mod Written

@@ -1,0 +1,5 @@
+pub mod Layout
+pub mod Records
+pub mod Tests
+pub mod Append
+pub mod Chains

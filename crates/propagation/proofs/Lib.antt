@@ -1,0 +1,5 @@
+pub mod Growing
+pub mod Signs
+pub mod Blocks
+pub mod Heard
+pub mod Growth
