@@ -19,7 +19,7 @@ pub struct Tally<E> {
 
 impl<E: Engine> Tally<E> {
     pub fn new(below: E) -> Self
-        ensures { λ r. ⌜ r .questions ≡ 0 ⌝ }
+        ensures { λ r. ⌜ r ≡ record { below = below; questions = 0 } ⌝ }
     {
         Tally {
             below,
