@@ -15,7 +15,7 @@ pub struct Draft {
 }
 
 impl Draft {
-    pub fn new(heap: Global) -> Result<Draft, AnyError> {
+    pub(crate) fn new(heap: Global) -> Result<Draft, AnyError> {
         Ok(Draft {
             signals: 0,
             words: vec![in heap; 0; 65536]?,
@@ -27,7 +27,7 @@ impl Draft {
     }
 
     // Begins a question over so many signals.
-    pub fn begin(&mut self, values: &[i32]) -> Option<&'static str> {
+    pub(crate) fn begin(&mut self, values: &[i32]) -> Option<&'static str> {
         match values {
             [n] if *n >= 0 => {
                 self.signals = *n as usize;
@@ -40,7 +40,7 @@ impl Draft {
         }
     }
 
-    pub fn set_room(&mut self, values: &[i32]) -> Option<&'static str> {
+    pub(crate) fn set_room(&mut self, values: &[i32]) -> Option<&'static str> {
         match values {
             [n] if *n >= 0 => {
                 self.room = *n as usize;
@@ -51,7 +51,7 @@ impl Draft {
     }
 
     // Adds a clause in front of the others.
-    pub fn clause(&mut self, values: &[i32]) -> Option<&'static str> {
+    pub(crate) fn clause(&mut self, values: &[i32]) -> Option<&'static str> {
         match append(self.words.as_mut_slice(), self.used, self.head, values) {
             Some(place) => {
                 self.used = place.used;
@@ -62,14 +62,14 @@ impl Draft {
         }
     }
 
-    pub fn assume(&mut self, values: &[i32]) -> Result<Option<&'static str>, AnyError> {
+    pub(crate) fn assume(&mut self, values: &[i32]) -> Result<Option<&'static str>, AnyError> {
         for x in values {
             self.assumptions.push(*x)?;
         }
         Ok(None)
     }
 
-    pub fn question(&self) -> Question<'_> {
+    pub(crate) fn question(&self) -> Question<'_> {
         Question {
             signals: self.signals,
             pool: self.words.as_slice(),

@@ -14,7 +14,7 @@ use propagation::place_of;
 use propagation::value_of;
 
 // The number of the signal after i, or the opposite.
-pub fn signed(i: usize, value: bool) -> i32
+pub(crate) fn signed(i: usize, value: bool) -> i32
     requires { ⌜ i < 1280 ⌝ }
     ensures { λ r. ⌜ r ≡ sign value i ⌝ }
 {
@@ -41,7 +41,7 @@ fn lowest(values: &[i32], numbers: &[i32], best: usize) -> usize
 }
 
 // The place of the signal to branch on; None where every record is true.
-pub fn choose(chain: Chain, values: &[i32]) -> Option<usize>
+pub(crate) fn choose(chain: Chain, values: &[i32]) -> Option<usize>
     requires { ⌜ signalsOf chain ≡ length (now values) ⌝ ∗ ⌜ All (Alive (now values)) (recordsOf chain) ⌝ }
     ensures { λ r. ⌜ Chosen (recordsOf (chain .entry)) (now (values .entry)) r ⌝ }
 {
@@ -54,7 +54,7 @@ pub fn choose(chain: Chain, values: &[i32]) -> Option<usize>
 }
 
 // Makes each open signal false.
-pub fn complete(values: &mut [i32])
+pub(crate) fn complete(values: &mut [i32])
     requires { ⌜ length (now values) ≤ 1280 ⌝ }
     ensures { λ _. ⌜ Completed (now (values .entry)) (now (values .exit)) ⌝ }
 {

@@ -61,7 +61,7 @@ fn retreat(
 
 // Whether the open signals can be given values that make the records true.
 // If not, they are open as before, and the signals that this rests on are marked.
-pub fn search(
+pub(crate) fn search(
     chain: Chain,
     values: &mut [i32],
     trail: &mut [usize],

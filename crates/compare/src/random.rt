@@ -6,12 +6,12 @@ pub struct Random {
 }
 
 impl Random {
-    pub fn new(seed: u64) -> Random {
+    pub(crate) fn new(seed: u64) -> Random {
         Random { state: seed }
     }
 
     // A number below `bound`, or 0 where that is 0.
-    pub fn below(&mut self, bound: u8) -> u8 {
+    pub(crate) fn below(&mut self, bound: u8) -> u8 {
         self.state = self.state
             .wrapping_mul(6364136223846793005)
             .wrapping_add(1442695040888963407);

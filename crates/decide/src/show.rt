@@ -35,7 +35,7 @@ fn print_clause(rt: &LibcRuntime, formula: &Formula, number: usize) -> io::Resul
     println!(rt, "")
 }
 
-pub fn print_formula(rt: &LibcRuntime, formula: &Formula) -> io::Result<()> {
+pub(crate) fn print_formula(rt: &LibcRuntime, formula: &Formula) -> io::Result<()> {
     let variables = formula.variables();
     let bound = formula.bound_variables();
     let clauses = formula.clauses();

@@ -11,7 +11,7 @@ use Rattle.std.proofs.shelf.Lists.{getD-set-same, getD-set-other, getD-past, se
 use Rattle.std.proofs.shelf.Tests.{cases-eq, cases-lt, cases-bool, eqb-true, eqb-false, ne-eqb, eq-eqb}
 use Rattle.formula.specs.Lists.{elem, keep, each, from}
 use Rattle.formula.specs.Found.{bindsAt, variablesOf}
-use Rattle.formula.proofs.Tests.{is-true, is-false, clash, dec, nor-l, nor-r, or-l, or-r, or-cases}
+use Rattle.formula.proofs.Tests.{is-true, is-false, clash, dec, nor-l, nor-r, or-cases, or-assoc}
 use Rattle.formula.proofs.Ranges.{keep-same}
 use Rattle.formula.proofs.Looked.{elem-kept}
 use Rattle.reader.specs.Grammar.{Block, allVariables, ascending}
@@ -19,11 +19,7 @@ use Rattle.reader.proofs.Bindings.{Free, setAll, length-setAll, free-split}
 
 pub elem-append : (v : ℕ) (xs ys : List ℕ) → elem v (xs ++ ys) ≡ elem v xs || elem v ys
 elem-append v [] ys = refl
-elem-append v (x ∷ xs) ys = ap (λ b. eqb v x || b) (elem-append v xs ys) ∙ or-assoc (eqb v x) (elem v xs) (elem v ys)
-  where
-    or-assoc : (a b c : Bool) → a || (b || c) ≡ (a || b) || c
-    or-assoc true b c = refl
-    or-assoc false b c = refl
+elem-append v (x ∷ xs) ys = ap (λ b. eqb v x || b) (elem-append v xs ys) ∙ sym (or-assoc (eqb v x) (elem v xs) (elem v ys))
 
 -- one variable bound at level m, and a list of them
 set-in : (bd : List ℕ) (u m v : ℕ) → v < length bd → getD (set bd u m) v 0 ≡ cond (eqb v u) m (getD bd v 0)

@@ -13,14 +13,14 @@ use Rattle.std.specs.declared.option.Option.the-variants.{Some, None}
 use Rattle.std.proofs.shelf.Lists.{length-append}
 use Rattle.std.proofs.shelf.Tests.{cond-true, cond-false, cond-both, cases-eq, eq-eqb, ne-eqb, not-true, not-from-false}
 use Rattle.formula.specs.Lists.{all}
-use Rattle.formula.proofs.Tests.{dec, both, and-l, and-r}
+use Rattle.formula.proofs.Tests.{dec, is-true, both, and-l, and-r}
 use Rattle.reader.specs.declared.comments.Lead.{Lead}
 use Rattle.reader.specs.declared.comments.Lead.the-variants.{Line, Blanks, Comment}
 use Rattle.reader.specs.Bytes.{blank, inWord}
 use Rattle.reader.specs.Comments.{past, pastBlank, goOn, wordsFrom}
 use Rattle.reader.specs.Words.{Word, words}
 use Rattle.reader.specs.Grammar.{Preamble, none, comment, blank-line}
-use Rattle.reader.proofs.Spacing.{true-from-T, T-from-true}
+use Rattle.reader.proofs.Spacing.{T-from-true}
 
 -- a byte that is passed
 passes : (m m′ : Lead) (b n : ℕ) (t : List ℕ) → past m b ≡ Some m′ → wordsFrom m n (b ∷ t) ≡ wordsFrom m′ (suc n) t
@@ -34,7 +34,7 @@ pub through-comment : (line rest : List ℕ) (n : ℕ) → T (all (λ b. not (eq
 through-comment [] rest n h = let e : suc n ≡ n + 0 + 1 = omega arith in ap (λ m. wordsFrom Line m rest) e
 through-comment (b ∷ line) rest n h =
     let e : suc n + length line + 1 ≡ n + suc (length line) + 1 = omega arith in
-    passes Comment Comment b n (line ++ (10 ∷ rest)) (cond-false _ _ _ (not-true (eqb b 10) (true-from-T _ (and-l (not (eqb b 10)) (all (λ b. not (eqb b 10)) line) h))))
+    passes Comment Comment b n (line ++ (10 ∷ rest)) (cond-false _ _ _ (not-true (eqb b 10) (is-true _ (and-l (not (eqb b 10)) (all (λ b. not (eqb b 10)) line) h))))
     ∙ through-comment line rest (suc n) (and-r (not (eqb b 10)) (all (λ b. not (eqb b 10)) line) h)
     ∙ ap (λ m. wordsFrom Line m rest) e
 
@@ -47,7 +47,7 @@ Early Comment = ⊥
 past-blank : (b : ℕ) → T (blank b) → (m : Lead) × Early m × (pastBlank b ≡ Some m)
 past-blank b h =
     cond-both (eqb b 10) (Some Line) (cond (blank b) (Some Blanks) None) (λ o. (m : Lead) × Early m × (o ≡ Some m))
-    (λ _. (Line, tt, refl)) (λ _. (Blanks, tt, cond-true _ _ _ (true-from-T (blank b) h)))
+    (λ _. (Line, tt, refl)) (λ _. (Blanks, tt, cond-true _ _ _ (is-true (blank b) h)))
 
 past-early : (m : Lead) → Early m → (b : ℕ) → T (blank b) → (m′ : Lead) × Early m′ × (past m b ≡ Some m′)
 past-early Line e b h =
@@ -75,7 +75,7 @@ to-word [] b rest m n e h no-c = stops m b n rest (no-c m e)
 to-word (g ∷ gap) b rest m n e h no-c =
     let y = and-l (blank g) (all blank gap) h in
     let p = past-early m e g y in
-    passes m (p .0) g n (gap ++ (b ∷ rest)) (p .2) ∙ to-word gap b rest (p .0) (suc n) (p .1) (and-r (blank g) (all blank gap) h) no-c ∙ sym (cond-true _ _ _ (true-from-T (blank g) y))
+    passes m (p .0) g n (gap ++ (b ∷ rest)) (p .2) ∙ to-word gap b rest (p .0) (suc n) (p .1) (and-r (blank g) (all blank gap) h) no-c ∙ sym (cond-true _ _ _ (is-true (blank g) y))
 
 pub through-preamble : {front : List ℕ} → Preamble front → (body : List ℕ) (n : ℕ) → wordsFrom Line n (front ++ body) ≡ wordsFrom Line (n + length front) body
 through-preamble none body n = ap (λ m. wordsFrom Line m body) (sym (add-zero n))
@@ -141,7 +141,7 @@ with-blanks n line rest ws h (front, body, f, p, is) =
 
 -- a blank before what goes on with blanks
 blank-on : (b n : ℕ) (t : List ℕ) (ws : List Word) → T (blank b) → InBlanks (suc n) t ws → InBlanks n (b ∷ t) ws
-blank-on b n t ws h (inl e) = inl (cond-true _ _ _ (true-from-T (blank b) h) ∙ e)
+blank-on b n t ws h (inl e) = inl (cond-true _ _ _ (is-true (blank b) h) ∙ e)
 blank-on b n t ws h (inr (line, rest, e, k, found)) =
     inr (b ∷ line, rest, ap (λ x. b ∷ x) e, both (blank b) (all blank line) h k, moved _ _ rest ws (one-more n (length line)) found)
 
@@ -167,8 +167,8 @@ blank-step b n t ws m p e line blanks =
     ⊎-elim
     (λ feed. feed-on b n t ws feed (line (sym (passes m Line b n t (p ∙ cond-true _ _ _ (eq-eqb b 10 feed))) ∙ e)))
     (λ no-feed. ⊎-elim
-    (λ y. blank-on b n t ws y (blanks (sym (passes m Blanks b n t (p ∙ cond-false _ _ _ (ne-eqb b 10 no-feed) ∙ cond-true _ _ _ (true-from-T (blank b) y))) ∙ e)))
-    (λ x. inl (sym (stops m b n t (p ∙ cond-false _ _ _ (ne-eqb b 10 no-feed) ∙ cond-false _ _ _ (not-true _ (true-from-T _ x)))) ∙ e))
+    (λ y. blank-on b n t ws y (blanks (sym (passes m Blanks b n t (p ∙ cond-false _ _ _ (ne-eqb b 10 no-feed) ∙ cond-true _ _ _ (is-true (blank b) y))) ∙ e)))
+    (λ x. inl (sym (stops m b n t (p ∙ cond-false _ _ _ (ne-eqb b 10 no-feed) ∙ cond-false _ _ _ (not-true _ (is-true _ x)))) ∙ e))
     (dec (blank b)))
     (cases-eq b 10)
 

@@ -10,14 +10,10 @@ use lib.Dec.{T}
 use lib.ListN.{length}
 use Rattle.std.proofs.shelf.Tests.{cond-true, cond-false, cond-both, not-true, not-from-false}
 use Rattle.formula.specs.Lists.{all, each}
-use Rattle.formula.proofs.Tests.{both, and-l, and-r, clash}
+use Rattle.formula.proofs.Tests.{is-true, both, and-l, and-r, clash}
 use Rattle.reader.specs.Bytes.{blank, inWord}
 use Rattle.reader.specs.Words.{Word, words, joins, onto}
 use Rattle.reader.specs.Grammar.{IsWord, Apart, Spaced}
-
-pub true-from-T : (b : Bool) → T b → b ≡ true
-true-from-T true t = refl
-true-from-T false t = absurd t
 
 pub T-from-true : (b : Bool) → b ≡ true → T b
 T-from-true true e = tt
@@ -31,26 +27,26 @@ pub blanks-front : (gap rest : List ℕ) (n : ℕ) → T (all blank gap) → wor
 blanks-front [] rest n t = ap (λ m. words m rest) (sym (add-zero n))
 blanks-front (b ∷ gap) rest n t =
     let e : suc n + length gap ≡ n + suc (length gap) = omega arith in
-    cond-true _ _ _ (true-from-T (blank b) (and-l (blank b) (all blank gap) t)) ∙ blanks-front gap rest (suc n) (and-r (blank b) (all blank gap) t) ∙ ap (λ m. words m rest) e
+    cond-true _ _ _ (is-true (blank b) (and-l (blank b) (all blank gap) t)) ∙ blanks-front gap rest (suc n) (and-r (blank b) (all blank gap) t) ∙ ap (λ m. words m rest) e
 
 pub all-blank : (t : List ℕ) (n : ℕ) → T (all blank t) → words n t ≡ []
 all-blank [] n h = refl
-all-blank (b ∷ t) n h = cond-true _ _ _ (true-from-T (blank b) (and-l (blank b) (all blank t) h)) ∙ all-blank t (suc n) (and-r (blank b) (all blank t) h)
+all-blank (b ∷ t) n h = cond-true _ _ _ (is-true (blank b) (and-l (blank b) (all blank t) h)) ∙ all-blank t (suc n) (and-r (blank b) (all blank t) h)
 
 -- a word in front
 ends-word : (b n : ℕ) (rest : List ℕ) → Apart rest → joins b n rest (words (suc n) rest) ≡ record { bytes = b ∷ []; place = n } ∷ words (suc n) rest
 ends-word b n [] a = refl
-ends-word b n (c ∷ rest) a = cond-true _ _ _ (true-from-T (blank c) a)
+ends-word b n (c ∷ rest) a = cond-true _ _ _ (is-true (blank c) a)
 
 word-front : (b n : ℕ) (w rest : List ℕ) → T (inWord b) → T (all inWord w) → Apart rest → words n (b ∷ (w ++ rest)) ≡ record { bytes = b ∷ w; place = n } ∷ words (n + length (b ∷ w)) rest
 word-front b n [] rest i h a =
     let e : suc n ≡ n + 1 = omega arith in
-    cond-false _ _ _ (not-true _ (true-from-T _ i)) ∙ ends-word b n rest a ∙ ap (λ m. record { bytes = b ∷ []; place = n } ∷ words m rest) e
+    cond-false _ _ _ (not-true _ (is-true _ i)) ∙ ends-word b n rest a ∙ ap (λ m. record { bytes = b ∷ []; place = n } ∷ words m rest) e
 word-front b n (c ∷ w) rest i h a =
     let on : words (suc n) (c ∷ (w ++ rest)) ≡ record { bytes = c ∷ w; place = suc n } ∷ words (suc n + length (c ∷ w)) rest = word-front c (suc n) w rest (and-l (inWord c) (all inWord w) h) (and-r (inWord c) (all inWord w) h) a in
     let e : suc n + length (c ∷ w) ≡ n + length (b ∷ c ∷ w) = omega arith in
-    cond-false _ _ _ (not-true _ (true-from-T _ i))
-    ∙ cond-false _ _ _ (not-true _ (true-from-T _ (and-l (inWord c) (all inWord w) h)))
+    cond-false _ _ _ (not-true _ (is-true _ i))
+    ∙ cond-false _ _ _ (not-true _ (is-true _ (and-l (inWord c) (all inWord w) h)))
     ∙ ap (onto b n) on
     ∙ ap (λ m. record { bytes = b ∷ c ∷ w; place = n } ∷ words m rest) e
 

@@ -57,7 +57,7 @@ fn repeat(out: &mut Vec<u8>, part: &[u8]) -> Result<(), AllocError> {
 }
 
 // The bytes that a line stands for.
-pub fn decode(heap: Global, line: &[u8]) -> Result<Vec<u8>, AllocError> {
+pub(crate) fn decode(heap: Global, line: &[u8]) -> Result<Vec<u8>, AllocError> {
     let mut out = Vec::new(heap);
     let mut from = 0;
     for (i, b) in line.iter().enumerate() {
