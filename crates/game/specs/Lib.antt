@@ -14,6 +14,7 @@ pub mod Moves
 pub mod Fitting
 pub mod MoveLaws
 pub mod Values
+pub mod Naming
 pub mod Noting
 pub mod Refusals
 pub mod Examples

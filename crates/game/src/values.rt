@@ -40,3 +40,22 @@ pub(crate) fn put_values(
     }
     count
 }
+
+// Whether a signed value says true.
+fn is_positive(value: i32) -> bool
+    ensures { λ r. ⌜ r ≡ ltZ (pos 0) value ⌝ }
+{
+    value > 0
+}
+
+// The values that an engine's words give the variables 1 to n, by their numbers.
+pub(crate) fn read_values(variables: usize, words: &[i32]) -> [bool; 257]
+    requires { ⌜ variables ≤ 256 ⌝ ∗ ⌜ variables ≤ length (now words) ⌝ }
+    ensures { λ r. ⌜ ((v : ℕ) → 1 ≤ v → v ≤ variables → getD r v false ≡ ltZ (pos 0) (getD (now (words .entry)) (v - 1) (pos 0))) ⌝ }
+{
+    let mut values = [false; 257];
+    for v in 1..variables + 1 {
+        values[v] = is_positive(words[v - 1]);
+    }
+    values
+}
