@@ -7,6 +7,7 @@
 //   room N        the words there are for an answer (at most 1280, and 1280 at first)
 //   ask           asks the question so far
 // The first line that is no command ends the program, with the line's number and what is wrong.
+#![tactic(auto)]
 use ask_words::numbers;
 use branching::Branching;
 use draft::Draft;

@@ -1,4 +1,5 @@
 // Lists of calls over any number of games, and the law of all such lists.
+#![tactic(auto)]
 mod acting;
 mod acts;
 mod call;

@@ -1,4 +1,5 @@
 // Engines that answer questions of satisfiability over clauses in a pool, all against one meaning.
+#![tactic(auto)]
 mod admission;
 mod asking;
 mod counting;

@@ -1,4 +1,6 @@
 // Quantified Boolean formulas as games of two sides: what they mean, in specs/; the formula in fixed arrays, here.
+#![tactic(auto)]
+
 mod draft;
 mod faults;
 mod formula;

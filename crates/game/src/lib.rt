@@ -1,4 +1,5 @@
 // A game of a formula: its table, and the calls on table and pool.
+#![tactic(auto)]
 mod ending;
 mod faults;
 mod moves;

@@ -1,4 +1,5 @@
 // Plays two small games, E and F, step by step, and prints steps, records, questions and moves. The output is fixed.
+#![tactic(auto)]
 mod board;
 
 use board::{Turn, make_turn, opened, play, print_numbers, print_record};

@@ -1,4 +1,5 @@
 // Reads a formula from a text.
+#![tactic(auto)]
 mod blocks;
 mod bytes;
 mod clauses;

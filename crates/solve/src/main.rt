@@ -1,4 +1,5 @@
 // Reads a formula on standard input, decides it, and prints the winner's plan; or says why not.
+#![tactic(auto)]
 mod deciding;
 mod plan;
 mod report;
