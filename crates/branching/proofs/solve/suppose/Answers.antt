@@ -24,8 +24,8 @@ loop-x-init c =
       (λ a agrees k h. absurd (omega arith)),
     )
 
-pub value-of-value-requires : goal.value-of-value-requires
-value-of-value-requires c =
+pub value_of-value-requires : goal.value_of-value-requires
+value_of-value-requires c =
     let fits : SFits w32 (get_or c.args.assumptions.now c.loop-x.x-index (pos 0)) = search rules in
     let named = All-get_or (Literal (length c.args.values.now)) c.args.assumptions.now c.loop-x.x-index (pos 0) c.loop-x-test.true c.requires.0 in
     simp to_z-of_z (named.0, omega (arith, named.1))
@@ -35,29 +35,29 @@ assign-requires c =
     let row = c.loop-x.values in
     let x = get_or c.args.assumptions.now c.loop-x.x-index (pos 0) in
     let fits : SFits w32 (get_or c.args.assumptions.now c.loop-x.x-index (pos 0)) = search rules in
-    let fits' : SFits w32 c.value-of-value.result = search rules in
+    let fits' : SFits w32 c.value_of-value.result = search rules in
     let named = All-get_or (Literal (length c.args.values.now)) c.args.assumptions.now c.loop-x.x-index (pos 0) c.loop-x-test.true c.requires.0 in
     let low = named.0 in
     let high = named.1 in
-    let is : c.value-of-value.result ≡ word_of row x = simp to_z-of_z at c.value-of-value.ensures in
-    let open' : nat_abs (at row (nat_abs x - 1)) ≡ 0 = ap nat_abs (sym is) ∙ abs_from_bits c.value-of-value.result fits' c.if-value-eq0.true in
+    let is : c.value_of-value.result ≡ word_of row x = simp to_z-of_z at c.value_of-value.ensures in
+    let open' : nat_abs (at row (nat_abs x - 1)) ≡ 0 = ap nat_abs (sym is) ∙ abs_from_bits c.value_of-value.result fits' c.if-value-eq0.true in
     let some = opens_pos row (nat_abs x - 1) (omega arith) open' in
     let counted = c.loop-x.invariant.1 in
     simp to_z-of_z ((low, omega arith), omega arith)
 
-pub place-of-requires : goal.place-of-requires
-place-of-requires c =
+pub place_of-requires : goal.place_of-requires
+place_of-requires c =
     let fits : SFits w32 (get_or c.args.assumptions.now c.loop-x.x-index (pos 0)) = search rules in
     simp to_z-of_z (All-get_or (Literal (length c.args.values.now)) c.args.assumptions.now c.loop-x.x-index (pos 0) c.loop-x-test.true c.requires.0).0
 
-pub bounds-marks-place-of : goal.bounds-marks-place-of
-bounds-marks-place-of c =
+pub bounds-marks-place_of : goal.bounds-marks-place_of
+bounds-marks-place_of c =
     let x = get_or c.args.assumptions.now c.loop-x.x-index (pos 0) in
     let fits : SFits w32 (get_or c.args.assumptions.now c.loop-x.x-index (pos 0)) = search rules in
     let named = All-get_or (Literal (length c.args.values.now)) c.args.assumptions.now c.loop-x.x-index (pos 0) c.loop-x-test.true c.requires.0 in
     let low = named.0 in
     let high = named.1 in
-    let is : c.place-of.result ≡ nat_abs x - 1 = simp to_z-of_z at c.place-of.ensures in
+    let is : c.place_of.result ≡ nat_abs x - 1 = simp to_z-of_z at c.place_of.ensures in
     omega arith
 
 pub returns-then-value-x : goal.returns-then-value-x
@@ -67,15 +67,15 @@ returns-then-value-x c =
     let i = c.loop-x.x-index in
     let x = get_or xs i (pos 0) in
     let fits : SFits w32 (get_or xs i (pos 0)) = search rules in
-    let fits' : SFits w32 c.value-of-value.result = search rules in
+    let fits' : SFits w32 c.value_of-value.result = search rules in
     let named = All-get_or (Literal (length c.args.values.now)) xs i (pos 0) c.loop-x-test.true c.requires.0 in
     let low = named.0 in
     let high = named.1 in
     let named' : Literal (length row) x = (low, omega arith) in
-    let is : c.value-of-value.result ≡ word_of row x = simp to_z-of_z at c.value-of-value.ensures in
-    let shut : nat_abs (word_of row x) ≡ 0 → ⊥ = λ e. c.if-value-eq0.false (bits_from_abs c.value-of-value.result (ap nat_abs is ∙ e)) in
+    let is : c.value_of-value.result ≡ word_of row x = simp to_z-of_z at c.value_of-value.ensures in
+    let shut : nat_abs (word_of row x) ≡ 0 → ⊥ = λ e. c.if-value-eq0.false (bits_from_abs c.value_of-value.result (ap nat_abs is ∙ e)) in
     let other : word_of row x ≡ x → ⊥ = λ e. c.if-value-x.true (ap (of_z w32) (is ∙ e)) in
-    let place : c.place-of.result ≡ nat_abs x - 1 = simp to_z-of_z at c.place-of.ensures in
+    let place : c.place_of.result ≡ nat_abs x - 1 = simp to_z-of_z at c.place_of.ensures in
     subst (λ (j : ℕ). (a : ℕ → Bool) → each a (used (set c.loop-x.marks j true) xs) ≡ true → ⊥) (sym place)
     (apart_used c.loop-x.marks row xs i c.loop-x-test.true (omega arith) c.loop-x.invariant.0 named' (other, shut) c.loop-x.invariant.2)
 
@@ -86,15 +86,15 @@ loop-x-preserved c =
     let i = c.loop-x.x-index in
     let x = get_or xs i (pos 0) in
     let fits : SFits w32 (get_or xs i (pos 0)) = search rules in
-    let fits' : SFits w32 c.value-of-value.result = search rules in
+    let fits' : SFits w32 c.value_of-value.result = search rules in
     let named = All-get_or (Literal (length c.args.values.now)) xs i (pos 0) c.loop-x-test.true c.requires.0 in
     let low = named.0 in
     let high : nat_abs x ≤ length row = omega (arith, named.1) in
     let counted = c.loop-x.invariant.1 in
-    let is : c.value-of-value.result ≡ word_of row x = simp to_z-of_z at c.value-of-value.ensures in
+    let is : c.value_of-value.result ≡ word_of row x = simp to_z-of_z at c.value_of-value.ensures in
     elim c.if-value-eq0.branch [
       | then-value-eq0 w ↦
-          let open' : nat_abs (word_of row x) ≡ 0 = ap nat_abs (sym is) ∙ abs_from_bits c.value-of-value.result fits' w.if-value-eq0.true in
+          let open' : nat_abs (word_of row x) ≡ 0 = ap nat_abs (sym is) ∙ abs_from_bits c.value_of-value.result fits' w.if-value-eq0.true in
           let now' : c.if-value-eq0.values ≡ set row (nat_abs x - 1) x = w.values-is ∙ (simp to_z-of_z at w.assign.ensures.row) in
           let top' = w.top-is in
           let long = length-set row (nat_abs x - 1) x in
@@ -109,7 +109,7 @@ loop-x-preserved c =
                 (agrees_true (set row (nat_abs x - 1) x) a x (low, omega arith) agrees (get_or-set_same row (nat_abs x - 1) x (pos 0) (omega arith)))),
           )
       | else-value-eq0+else-value-x w ↦
-          let same : word_of row x ≡ x = sym is ∙ same_from_bits c.value-of-value.result x fits' fits w.if-value-x.false in
+          let same : word_of row x ≡ x = sym is ∙ same_from_bits c.value_of-value.result x fits' fits w.if-value-x.false in
           let top' = w.top-is in
           rw w.values-is (
             c.loop-x.invariant.0,

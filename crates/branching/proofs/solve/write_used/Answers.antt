@@ -8,19 +8,19 @@ use Rattle.branching.proofs.Uses.{used_skip, used_take, push_word}
 use Rattle.branching.proofs.solve.write_used.Goals as goal
 use Rattle.branching.proofs.solve.write_used.Goals.{then-marks-place-of, else-marks-place-of}
 
-pub place-of-requires : goal.place-of-requires
-place-of-requires c =
+pub place_of-requires : goal.place_of-requires
+place_of-requires c =
     let fits : SFits w32 (get_or c.args.assumptions.now c.loop-x.x-index (pos 0)) = search rules in
     simp to_z-of_z (All-get_or (Literal (length c.args.marks.now)) c.args.assumptions.now c.loop-x.x-index (pos 0) c.loop-x-test.true c.requires.0).0
 
-pub bounds-marks-place-of : goal.bounds-marks-place-of
-bounds-marks-place-of c =
+pub bounds-marks-place_of : goal.bounds-marks-place_of
+bounds-marks-place_of c =
     let x = get_or c.args.assumptions.now c.loop-x.x-index (pos 0) in
     let fits : SFits w32 (get_or c.args.assumptions.now c.loop-x.x-index (pos 0)) = search rules in
     let named = All-get_or (Literal (length c.args.marks.now)) c.args.assumptions.now c.loop-x.x-index (pos 0) c.loop-x-test.true c.requires.0 in
     let low = named.0 in
     let high = named.1 in
-    let is : c.place-of.result ≡ nat_abs x - 1 = simp to_z-of_z at c.place-of.ensures in
+    let is : c.place_of.result ≡ nat_abs x - 1 = simp to_z-of_z at c.place_of.ensures in
     omega arith
 
 pub loop-x-preserved : goal.loop-x-preserved
@@ -31,21 +31,21 @@ loop-x-preserved c =
     let x = get_or xs i (pos 0) in
     let n = c.loop-x.n in
     let fits : SFits w32 (get_or xs i (pos 0)) = search rules in
-    let place : c.place-of.result ≡ nat_abs x - 1 = simp to_z-of_z at c.place-of.ensures in
+    let place : c.place_of.result ≡ nat_abs x - 1 = simp to_z-of_z at c.place_of.ensures in
     let inv = c.loop-x.invariant in
-    elim c.if-marks-place-of.branch [
+    elim c.if-marks-place_of.branch [
       | then-marks-place-of w ↦
-          let m : get_or marks (nat_abs x - 1) false ≡ true = ap (λ j. get_or marks j false) (sym place) ∙ w.if-marks-place-of.true in
+          let m : get_or marks (nat_abs x - 1) false ≡ true = ap (λ j. get_or marks j false) (sym place) ∙ w.if-marks-place_of.true in
           let more = used_take marks xs i c.loop-x-test.true m in
           let push = length_push (used marks (take i xs)) x in
           let long = ap length more in
           let n' = w.n-is in
           let first = inv.0 in
-          let out' : c.if-marks-place-of.out ≡ set c.loop-x.out n x = w.out-is ∙ ap (set c.loop-x.out n) (to_z-of_z w32 x fits) in
+          let out' : c.if-marks-place_of.out ≡ set c.loop-x.out n x = w.out-is ∙ ap (set c.loop-x.out n) (to_z-of_z w32 x fits) in
           let word = push_word (used marks (take i xs)) c.args.out.now c.loop-x.out x n (sym inv.0) (omega arith) inv.2 in
           (omega arith, omega arith, out' ∙ word ∙ ap (λ l. l ++ drop (n + 1) c.args.out.now) (sym more) ∙ ap (λ k. used marks (take (i + 1) xs) ++ drop k c.args.out.now) (sym n'))
       | else-marks-place-of w ↦
-          let m : get_or marks (nat_abs x - 1) false ≡ false = ap (λ j. get_or marks j false) (sym place) ∙ w.if-marks-place-of.false in
+          let m : get_or marks (nat_abs x - 1) false ≡ false = ap (λ j. get_or marks j false) (sym place) ∙ w.if-marks-place_of.false in
           let same = used_skip marks xs i c.loop-x-test.true m in
           let long = ap length same in
           let n' = w.n-is in

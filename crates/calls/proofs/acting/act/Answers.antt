@@ -16,4 +16,4 @@ returns-in-Check g c =
 pub returns-in-Ask : goal.returns-in-Ask
 returns-in-Ask g c =
     let p = place_with c.args.table.now c.args.pool.now c.args.verdict.now in
-    made_cases c.ask-at.result _ _ _ c.ask-at.ensures (λ o h. subst (λ a. Happens g.E.Engine.most (act_of a) p (told_by o) p) (sym c.in-Ask.is) (asks h)) (λ e. refl)
+    made_cases c.ask_at.result _ _ _ c.ask_at.ensures (λ o h. subst (λ a. Happens g.E.Engine.most (act_of a) p (told_by o) p) (sym c.in-Ask.is) (asks h)) (λ e. refl)

@@ -11,10 +11,10 @@ pub returns : goal.returns
 returns c most =
     let made = c.in-ok-values.ensures.0 in
     let t = c.args.table.now in
-    let out = c.next-move-moved.new.values in
-    let long : length out ≡ c.in-ok-values.values.len = c.next-move-moved.auto.values ∙ c.as-mut-slice.ensures.len in
-    let blank = c.as-mut-slice.ensures.value ∙ made in
+    let out = c.next_move-moved.new.values in
+    let long : length out ≡ c.in-ok-values.values.len = c.next_move-moved.auto.values ∙ c.as_mut_slice.ensures.len in
+    let blank = c.as_mut_slice.ensures.value ∙ made in
     moves c.in-Some.given c.in-Some.is
-    (subst (λ ws. Moved (called t.holds t.game c.in-Some.given c.args.pool.now c.args.level c.args.play.now 256) (replicate 256 (pos 0)) ws c.next-move-moved.result)
+    (subst (λ ws. Moved (called t.holds t.game c.in-Some.given c.args.pool.now c.args.level c.args.play.now 256) (replicate 256 (pos 0)) ws c.next_move-moved.result)
     (sym (take_at out (drop (length out) c.in-ok-values.values.items) c.in-ok-values.values.len long))
-    (subst (λ (old : List ℤ). Moved (called t.holds t.game c.in-Some.given c.args.pool.now c.args.level c.args.play.now (length old)) old out c.next-move-moved.result) blank c.next-move-moved.ensures))
+    (subst (λ (old : List ℤ). Moved (called t.holds t.game c.in-Some.given c.args.pool.now c.args.level c.args.play.now (length old)) old out c.next_move-moved.result) blank c.next_move-moved.ensures))

@@ -16,7 +16,7 @@ loop-m-preserved c =
     let here : m < length (take g.depth g.levels) = omega (arith, length-take-le g.depth g.levels few) in
     let e = ap (λ l. bound_in (each (variables_in g.variables) l)) (drop_more (take g.depth g.levels) m nought here) in
     let at = ap (λ l. length (variables_in g.variables l)) (get_or-take g.depth g.levels m nought c.loop-m-test.true) in
-    let told = c.count-flags-total.ensures in
+    let told = c.count_flags-total.ensures in
     (omega (arith, e, at, told.count, c.loop-m.invariant.0), omega (arith, told.few, c.loop-m.invariant.1))
 
 pub returns : goal.returns

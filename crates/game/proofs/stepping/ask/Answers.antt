@@ -21,11 +21,11 @@ unreachable-requires g c =
     let long : length G.levels ≡ 32 = search rules in
     let deep = c.requires.0.2 in
     let fits : G.depth ≤ length G.levels = omega arith in
-    let few = c.count-signals.ensures.few in
-    let k = c.count-signals.ensures.value in
+    let few = c.count_signals.ensures.few in
+    let k = c.count_signals.ensures.value in
     let out : length c.args.out.now ≡ 1280 = search rules in
     let room : signals_of G ≤ length c.args.out.now = omega arith in
-    let is = asked_so G pool c.count-signals.result c.assumptions-of-count.result c.assumptions-of-count.new.buffer k c.assumptions-of-count.ensures.list in
+    let is = asked_so G pool c.count_signals.result c.assumptions_of-count.result c.assumptions_of-count.new.buffer k c.assumptions_of-count.ensures.list in
     never_refused G pool c.requires.0 c.requires.1.0 fits c.requires.1.1.0 g.E.Engine.most (length c.args.out.now) c.requires.1.1.1 room c.in-Err.field-0
     (subst (λ q. Refused g.E.Engine.most q (length c.args.out.now) c.in-Err.field-0) is c.in-Err.ensures.0)
 
@@ -36,8 +36,8 @@ returns g c =
     let long : length G.levels ≡ 32 = search rules in
     let deep = c.requires.0.2 in
     let fits : G.depth ≤ length G.levels = omega arith in
-    let k = c.count-signals.ensures.value in
+    let k = c.count_signals.ensures.value in
     let out : length c.ask.new.out ≡ 1280 = search rules in
-    let is = asked_so G pool c.count-signals.result c.assumptions-of-count.result c.assumptions-of-count.new.buffer k c.assumptions-of-count.ensures.list in
+    let is = asked_so G pool c.count_signals.result c.assumptions_of-count.result c.assumptions_of-count.new.buffer k c.assumptions_of-count.ensures.list in
     replied G pool c.requires.0 c.requires.1.0 fits c.requires.1.1.0 c.args.out.now c.ask.new.out c.in-Ok.answer
     (subst (λ q. Given q c.args.out.now c.ask.new.out c.in-Ok.answer) is c.in-Ok.ensures.1) out

@@ -11,9 +11,9 @@ returns-then-game g c =
     let pool = c.args.pool.now in
     let long = c.requires.0.filled.2 in
     let deep = c.requires.0.limits.2 in
-    let w = c.winner-with-no-level.result in
+    let w = c.winner_with_no_level.result in
     done_unasked G pool c.requires.0 (omega arith) c.requires.1.0 (with_verdict w G) pool c.if-game.true w
-    (c.winner-with-no-level.ensures (clauses_of G pool) (length_clauses G pool c.requires.0.sound.formula)) refl
+    (c.winner_with_no_level.ensures (clauses_of G pool) (length_clauses G pool c.requires.0.sound.formula)) refl
 
 pub returns : goal.returns
 returns g c =

@@ -14,12 +14,12 @@ loop-m-init c =
     let q = qbf c.args.formula.now.parts in (
       refl,
       refl,
-      subst (EnoughChains (length c.args.pool.now) (laid_as c.args.pool.now c.args.place)) (sym (first_chains q.clauses q.variables c.first-side-side.result q.first q.levels c.first-side-side.ensures)) c.requires,
+      subst (EnoughChains (length c.args.pool.now) (laid_as c.args.pool.now c.args.place)) (sym (first_chains q.clauses q.variables c.first_side-side.result q.first q.levels c.first_side-side.ensures)) c.requires,
       c.told-levels,
     )
 
-pub write-level-place-requires : goal.write-level-place-requires
-write-level-place-requires c =
+pub write_level-place-requires : goal.write_level-place-requires
+write_level-place-requires c =
     let q = qbf c.args.formula.now.parts in
     enough_level q (laid_as c.loop-m.pool c.loop-m.place) c.loop-m.side c.loop-m.m c.levels-count.result (length c.args.pool.now) (length c.loop-m.pool)
     (omega (arith, c.levels-count.ensures.value)) c.levels-count.ensures.value c.loop-m.auto.pool c.loop-m.invariant.2
@@ -29,13 +29,13 @@ loop-m-preserved c =
     let q = qbf c.args.formula.now.parts in
     let m = c.loop-m.m in
     let s = laid_as c.loop-m.pool c.loop-m.place in
-    let t = laid_as c.write-level-place.new.pool c.write-level-place.result in
+    let t = laid_as c.write_level-place.new.pool c.write_level-place.result in
     let here : m < length q.levels = omega (arith, c.levels-count.ensures.value) in
     let all = c.levels-count.ensures.value in (
-      chains_next q s t c.loop-m.side c.other-side.result m c.levels-count.result here all c.write-level-place.ensures c.other-side.ensures ∙ c.loop-m.invariant.0,
-      levels_next q s t c.loop-m.side c.other-side.result m c.levels-count.result here all c.write-level-place.ensures c.other-side.ensures c.loop-m.levels _ c.new-level.ensures ∙ c.loop-m.invariant.1,
-      enough_next_levels q s t c.loop-m.side c.other-side.result m c.levels-count.result here all c.write-level-place.ensures c.other-side.ensures (length c.args.pool.now) c.loop-m.invariant.2,
-      length-set c.loop-m.levels m c.new-level.result ∙ c.loop-m.invariant.3,
+      chains_next q s t c.loop-m.side c.other-side.result m c.levels-count.result here all c.write_level-place.ensures c.other-side.ensures ∙ c.loop-m.invariant.0,
+      levels_next q s t c.loop-m.side c.other-side.result m c.levels-count.result here all c.write_level-place.ensures c.other-side.ensures c.loop-m.levels _ c.new_level.ensures ∙ c.loop-m.invariant.1,
+      enough_next_levels q s t c.loop-m.side c.other-side.result m c.levels-count.result here all c.write_level-place.ensures c.other-side.ensures (length c.args.pool.now) c.loop-m.invariant.2,
+      length-set c.loop-m.levels m c.new_level.result ∙ c.loop-m.invariant.3,
     )
 
 pub returns : goal.returns
@@ -47,7 +47,7 @@ returns c =
     let s₀ = laid_as c.args.pool.now c.args.place in
     record {
       words = sym (at_drop_all (λ l. laid_chains s (level_chains C n c.loop-m.side l)) q.levels c.loop-m.m (omega (arith, c.levels-count.ensures.value))) ∙ c.loop-m.invariant.0
-          ∙ ap (laid_chains s₀) (first_chains C n c.first-side-side.result q.first q.levels c.first-side-side.ensures);
+          ∙ ap (laid_chains s₀) (first_chains C n c.first_side-side.result q.first q.levels c.first_side-side.ensures);
       levels = sym (at_drop_all (λ l. put_from c.loop-m.m (new_levels C n s c.loop-m.side l) c.loop-m.levels) q.levels c.loop-m.m (omega (arith, c.levels-count.ensures.value))) ∙ c.loop-m.invariant.1
-          ∙ ap (λ ls. put_from 0 ls c.args.levels.now) (first_levels C n s₀ c.first-side-side.result q.first q.levels c.first-side-side.ensures);
+          ∙ ap (λ ls. put_from 0 ls c.args.levels.now) (first_levels C n s₀ c.first_side-side.result q.first q.levels c.first_side-side.ensures);
     }

@@ -17,12 +17,12 @@ bounds-buffer-count c =
     let most = few_in_clause c.args.formula.now c.args.clause c.in-Some.literals.now c.in-Some.ensures.2 in
     omega (arith, c.loop-l.invariant.1)
 
-pub loop-l-preserved-then-not-is-at : goal.loop-l-preserved-then-not-is-at
-loop-l-preserved-then-not-is-at c =
+pub loop-l-preserved-then-not-is_at : goal.loop-l-preserved-then-not-is_at
+loop-l-preserved-then-not-is_at c =
     let p : ℤ → Bool = λ x. elem (nat_abs x) (level_at (qbf c.args.formula.now.parts) c.args.level) in
     let ls = c.in-Some.literals.now in
     let fits : SFits w32 (get_or c.in-Some.literals.now c.loop-l.l-index (pos 0)) = search rules in (
-      left_turn p c.loop-l.buffer ls c.loop-l.count c.loop-l.l-index (keep p ls) c.loop-l.invariant.0 _ c.loop-l-test.true (to_z-of_z w32 (get_or ls c.loop-l.l-index (pos 0)) fits) (sym c.if-not-is-at.ensures),
+      left_turn p c.loop-l.buffer ls c.loop-l.count c.loop-l.l-index (keep p ls) c.loop-l.invariant.0 _ c.loop-l-test.true (to_z-of_z w32 (get_or ls c.loop-l.l-index (pos 0)) fits) (sym c.if-not-is_at.ensures),
       omega (arith, c.loop-l.invariant.1),
       c.loop-l.invariant.2,
     )
@@ -35,7 +35,7 @@ loop-l-preserved c =
     let at : c.loop-l.l-index < length ls = c.loop-l-test.true in
     let room : c.loop-l.count < length c.loop-l.buffer = omega (arith, c.loop-l.invariant.1, c.loop-l.invariant.2) in
     let fits : SFits w32 (get_or c.in-Some.literals.now c.loop-l.l-index (pos 0)) = search rules in (
-      kept_turn p c.loop-l.buffer ls c.loop-l.count c.loop-l.l-index (keep p ls) c.loop-l.invariant.0 _ at (to_z-of_z w32 (get_or ls c.loop-l.l-index (pos 0)) fits) room (sym c.if-not-is-at.ensures),
+      kept_turn p c.loop-l.buffer ls c.loop-l.count c.loop-l.l-index (keep p ls) c.loop-l.invariant.0 _ at (to_z-of_z w32 (get_or ls c.loop-l.l-index (pos 0)) fits) room (sym c.if-not-is_at.ensures),
       omega (arith, c.loop-l.invariant.1),
       length-set c.loop-l.buffer c.loop-l.count _ ∙ c.loop-l.invariant.2,
     )

@@ -18,14 +18,14 @@ use Rattle.layout.proofs.chains.write_device.Goals as goal
 pub overflow-add-clause : goal.overflow-add-clause
 overflow-add-clause c = let few = (proper c.args.formula.now).few_clauses in omega arith
 
-pub loop-l-preserved-then-not-is-at : goal.loop-l-preserved-then-not-is-at
-loop-l-preserved-then-not-is-at c =
+pub loop-l-preserved-then-not-is_at : goal.loop-l-preserved-then-not-is_at
+loop-l-preserved-then-not-is_at c =
     let q = qbf c.args.formula.now.parts in
     let p : ℤ → Bool = λ x. elem (nat_abs x) (level_at q c.args.level) in
     let g = device_record q.clauses q.variables c.args.clause in
     let ls = c.in-Some.literals.now in
     let fits : SFits w32 (get_or c.in-Some.literals.now c.loop-l.l-index (pos 0)) = search rules in
-    let e = made_past g p ls c.loop-l.l-index _ c.loop-l-test.true (to_z-of_z w32 (get_or ls c.loop-l.l-index (pos 0)) fits) (sym c.if-not-is-at.ensures) in
+    let e = made_past g p ls c.loop-l.l-index _ c.loop-l-test.true (to_z-of_z w32 (get_or ls c.loop-l.l-index (pos 0)) fits) (sym c.if-not-is_at.ensures) in
     let s = laid_as c.loop-l.pool c.loop-l.place in
     (sym (ap (laid s) e) ∙ c.loop-l.invariant.0, subst (Enough (length c.args.pool.now) s) e c.loop-l.invariant.1)
 
@@ -34,13 +34,13 @@ b_is : (w : ℤ) (n k : ℕ) (f : Formula) (i : ℕ) → SFits w32 w → w ≡ p
     → to_z w32 (of_z w32 w) ≡ pos (b_signal (qbf f.parts).variables (length (qbf f.parts).clauses) i)
 b_is w n k f i fits is same also = to_z-of_z w32 w fits ∙ is ∙ ap (λ m. pos (b_signal m k i)) same ∙ ap (λ m. pos (b_signal (qbf f.parts).variables m i)) also
 
-pub device-record-record-requires : goal.device-record-record-requires
-device-record-record-requires c =
+pub device_record-record-requires : goal.device_record-record-requires
+device_record-record-requires c =
     let f = c.args.formula.now in
     let few = (proper f).few_clauses in
-    let fits : SFits w32 c.b-signal-left.result = search rules in
-    let is = b_is c.b-signal-left.result c.variables.result c.clauses.result f c.args.clause fits c.b-signal-left.ensures c.variables.ensures.value c.clauses.ensures.value in (
-      (level_bounds f c.args.level _ (sym c.if-not-is-at.ensures)).1,
+    let fits : SFits w32 c.b_signal-left.result = search rules in
+    let is = b_is c.b_signal-left.result c.variables.result c.clauses.result f c.args.clause fits c.b_signal-left.ensures c.variables.ensures.value c.clauses.ensures.value in (
+      (level_bounds f c.args.level _ (sym c.if-not-is_at.ensures)).1,
       subst (λ z. nat_abs z ≤ 1280) (sym is) (let a = (proper f).few_variables in omega arith),
     )
 
@@ -52,11 +52,11 @@ lay-place-requires c =
     let g = device_record q.clauses q.variables c.args.clause in
     let ls = c.in-Some.literals.now in
     let fits : SFits w32 (get_or c.in-Some.literals.now c.loop-l.l-index (pos 0)) = search rules in
-    let fits' : SFits w32 c.b-signal-left.result = search rules in
-    let is = b_is c.b-signal-left.result c.variables.result c.clauses.result f c.args.clause fits' c.b-signal-left.ensures c.variables.ensures.value c.clauses.ensures.value in
+    let fits' : SFits w32 c.b_signal-left.result = search rules in
+    let is = b_is c.b_signal-left.result c.variables.result c.clauses.result f c.args.clause fits' c.b_signal-left.ensures c.variables.ensures.value c.clauses.ensures.value in
     let x = to_z w32 (of_z w32 (get_or ls c.loop-l.l-index (pos 0))) in
-    let e = made_here g p ls c.loop-l.l-index x c.loop-l-test.true (to_z-of_z w32 (get_or ls c.loop-l.l-index (pos 0)) fits) (sym c.if-not-is-at.ensures) in
-    let made : c.device-record-record.result ≡ g x = c.device-record-record.ensures ∙ ap (λ z. neg_ℤ x ∷ neg_ℤ z ∷ []) is in
+    let e = made_here g p ls c.loop-l.l-index x c.loop-l-test.true (to_z-of_z w32 (get_or ls c.loop-l.l-index (pos 0)) fits) (sym c.if-not-is_at.ensures) in
+    let made : c.device_record-record.result ≡ g x = c.device_record-record.ensures ∙ ap (λ z. neg_ℤ x ∷ neg_ℤ z ∷ []) is in
     subst (λ xs. Room (length c.loop-l.pool) c.loop-l.place.used c.loop-l.place.head (length xs)) (sym made)
     (room_for (length c.args.pool.now) (laid_as c.loop-l.pool c.loop-l.place) (g x) _ _ e _ c.loop-l.auto.pool c.loop-l.invariant.1)
 
@@ -68,11 +68,11 @@ loop-l-preserved c =
     let g = device_record q.clauses q.variables c.args.clause in
     let ls = c.in-Some.literals.now in
     let fits : SFits w32 (get_or c.in-Some.literals.now c.loop-l.l-index (pos 0)) = search rules in
-    let fits' : SFits w32 c.b-signal-left.result = search rules in
-    let is = b_is c.b-signal-left.result c.variables.result c.clauses.result f c.args.clause fits' c.b-signal-left.ensures c.variables.ensures.value c.clauses.ensures.value in
+    let fits' : SFits w32 c.b_signal-left.result = search rules in
+    let is = b_is c.b_signal-left.result c.variables.result c.clauses.result f c.args.clause fits' c.b_signal-left.ensures c.variables.ensures.value c.clauses.ensures.value in
     let x = to_z w32 (of_z w32 (get_or ls c.loop-l.l-index (pos 0))) in
-    let e = made_here g p ls c.loop-l.l-index x c.loop-l-test.true (to_z-of_z w32 (get_or ls c.loop-l.l-index (pos 0)) fits) (sym c.if-not-is-at.ensures) in
-    let made : c.device-record-record.result ≡ g x = c.device-record-record.ensures ∙ ap (λ z. neg_ℤ x ∷ neg_ℤ z ∷ []) is in
+    let e = made_here g p ls c.loop-l.l-index x c.loop-l-test.true (to_z-of_z w32 (get_or ls c.loop-l.l-index (pos 0)) fits) (sym c.if-not-is_at.ensures) in
+    let made : c.device_record-record.result ≡ g x = c.device_record-record.ensures ∙ ap (λ z. neg_ℤ x ∷ neg_ℤ z ∷ []) is in
     let s = laid_as c.loop-l.pool c.loop-l.place in
     let to = c.lay-place.ensures ∙ ap (lay s) made in
     let size = length c.args.pool.now in

@@ -10,8 +10,8 @@ use Rattle.layout.specs.Opening.{clause_records}
 use Rattle.layout.proofs.Room.{laid_append, enough_front, enough_rest, gather_place}
 use Rattle.layout.proofs.chains.write_level.Goals as goal
 
-pub write-clause-place-requires : goal.write-clause-place-requires
-write-clause-place-requires c =
+pub write_clause-place-requires : goal.write_clause-place-requires
+write_clause-place-requires c =
     let q = qbf c.args.formula.now.parts in
     let f = clause_records q.clauses q.variables c.args.side (level_at q c.args.level) c.args.last in
     let i = c.loop-clause.clause in
@@ -33,8 +33,8 @@ loop-clause-preserved c =
     let e = gather_place f (length q.clauses) i here in
     let rest = gather f (drop (i + 1) (below (length q.clauses))) in
     let size = length c.args.pool.now in (
-      ap (λ t. laid t rest) c.write-clause-place.ensures ∙ sym (laid_append s (f i) rest) ∙ sym (ap (laid s) e) ∙ c.loop-clause.invariant.0,
-      subst (λ t. Enough size t rest) (sym c.write-clause-place.ensures) (enough_rest size s (f i) rest (subst (Enough size s) e c.loop-clause.invariant.1)),
+      ap (λ t. laid t rest) c.write_clause-place.ensures ∙ sym (laid_append s (f i) rest) ∙ sym (ap (laid s) e) ∙ c.loop-clause.invariant.0,
+      subst (λ t. Enough size t rest) (sym c.write_clause-place.ensures) (enough_rest size s (f i) rest (subst (Enough size s) e c.loop-clause.invariant.1)),
     )
 
 pub returns : goal.returns

@@ -20,7 +20,7 @@ loop-v-preserved c =
     let h : c.loop-v.v ≤ c.args.game.now.variables = omega arith in
     let in' : c.loop-v.at < length c.args.numbers.now = omega arith in
     let fits : SFits w32 (get_or c.args.numbers.now c.loop-v.at (pos 0)) = search rules in
-    let is : eqb (nat_abs (get_or xs c.loop-v.at (pos 0))) c.loop-v.v ≡ true = sym (simp to_z-of_z at c.if-not-is-literal.ensures) in
+    let is : eqb (nat_abs (get_or xs c.loop-v.at (pos 0))) c.loop-v.v ≡ true = sym (simp to_z-of_z at c.if-not-is_literal.ensures) in
     (c.loop-v.invariant.0 ∙ choice_more (binds_in g c.args.m) g.variables c.loop-v.v xs c.loop-v.at h c.if-not-game-m.false in' is, omega arith)
 
 pub returns-then-at-numbers : goal.returns-then-at-numbers
@@ -34,7 +34,7 @@ returns-then-at-numbers c =
       | then-at-numbers-via-else-at-numbers+then-not-is-literal w ↦
           let in' : c.loop-v.at < length c.args.numbers.now = omega arith in
           let fits : SFits w32 (get_or c.args.numbers.now c.loop-v.at (pos 0)) = search rules in
-          let is : eqb (nat_abs (get_or xs c.loop-v.at (pos 0))) c.loop-v.v ≡ false = sym (simp to_z-of_z at w.if-not-is-literal.ensures) in
+          let is : eqb (nat_abs (get_or xs c.loop-v.at (pos 0))) c.loop-v.v ≡ false = sym (simp to_z-of_z at w.if-not-is_literal.ensures) in
           choice_other (binds_in g c.args.m) g.variables c.loop-v.v xs c.loop-v.at h c.if-not-game-m.false in' is
     ] in
     sym (c.loop-v.invariant.0 ∙ fails)

@@ -12,7 +12,7 @@ loop-i-preserved c =
     let told = c.in-Some.ensures in
     let e = ap words_for (at_place q.clauses c.loop-i.i c.in-Some.clause.now (omega (arith, told.1)) (told.2 ∙ clause_next q c.loop-i.i)) in
     let few = few_in_clause c.args.formula.now c.loop-i.i c.in-Some.clause.now told.2 in
-    (omega (arith, e, c.head-words.ensures, c.loop-i.invariant.0), omega (arith, few, c.head-words.ensures, c.loop-i.invariant.1))
+    (omega (arith, e, c.head_words.ensures, c.loop-i.invariant.0), omega (arith, few, c.head_words.ensures, c.loop-i.invariant.1))
 
 pub returns : goal.returns
 returns c =

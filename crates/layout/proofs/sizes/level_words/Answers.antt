@@ -9,8 +9,8 @@ use Rattle.layout.specs.Opening.{clause_records}
 use Rattle.layout.proofs.Room.{words_append, gather_place}
 use Rattle.layout.proofs.sizes.level_words.Goals as goal
 
-pub clause-words-total-requires : goal.clause-words-total-requires
-clause-words-total-requires c = omega (arith, c.clauses-clause-end.ensures.value)
+pub clause_words-total-requires : goal.clause_words-total-requires
+clause_words-total-requires c = omega (arith, c.clauses-clause-end.ensures.value)
 
 pub loop-clause-preserved : goal.loop-clause-preserved
 loop-clause-preserved c =
@@ -20,7 +20,7 @@ loop-clause-preserved c =
     let here : i < length q.clauses = omega (arith, c.clauses-clause-end.ensures.value) in
     let rest = gather f (drop (i + 1) (below (length q.clauses))) in
     let e = ap words_for (gather_place f (length q.clauses) i here) ∙ words_append (f i) rest in
-    let told = c.clause-words-total.ensures in
+    let told = c.clause_words-total.ensures in
     (omega (arith, e, told.words, c.loop-clause.invariant.0), omega (arith, told.few, c.loop-clause.invariant.1))
 
 pub returns : goal.returns

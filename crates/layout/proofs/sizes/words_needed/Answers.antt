@@ -9,8 +9,8 @@ use Rattle.layout.proofs.sizes.words_needed.Goals as goal
 pub loop-m-init : goal.loop-m-init
 loop-m-init c =
     let q = qbf c.args.formula.now.parts in
-    let e = ap words_for_chains (first_chains q.clauses q.variables c.first-side-side.result q.first q.levels c.first-side-side.ensures) in
-    (omega (arith, e, c.formula-words-total.ensures.words), omega (arith, c.formula-words-total.ensures.few))
+    let e = ap words_for_chains (first_chains q.clauses q.variables c.first_side-side.result q.first q.levels c.first_side-side.ensures) in
+    (omega (arith, e, c.formula_words-total.ensures.words), omega (arith, c.formula_words-total.ensures.few))
 
 pub loop-m-preserved : goal.loop-m-preserved
 loop-m-preserved c =
@@ -22,7 +22,7 @@ loop-m-preserved c =
     let e = ap words_for_chains (levels_place q c.loop-m.side m here) in
     let last = ap (λ k. words_for (level_records q.clauses q.variables c.loop-m.side (level_at q (m + 1)) (eqb (m + 1) k))) L in
     let next = ap (λ σ. words_for_chains (level_chains q.clauses q.variables σ rest)) c.other-side.ensures in
-    let told = c.level-words-total.ensures in
+    let told = c.level_words-total.ensures in
     (omega (arith, e, last, next, told.words, c.loop-m.invariant.0), omega (arith, told.few, c.loop-m.invariant.1))
 
 pub returns : goal.returns

@@ -10,7 +10,7 @@ pub overflow-sub-clause : goal.overflow-sub-clause
 overflow-sub-clause c =
     let g = c.args.game.now in
     let fits : SFits w32 (get_or c.args.signals.now c.loop-x.x-index (pos 0)) = search rules in
-    let is : c.unsigned-abs.result ≡ nat_abs (get_or c.args.signals.now c.loop-x.x-index (pos 0)) = simp to_z-of_z at c.unsigned-abs.ensures.value in
+    let is : c.unsigned_abs.result ≡ nat_abs (get_or c.args.signals.now c.loop-x.x-index (pos 0)) = simp to_z-of_z at c.unsigned_abs.ensures.value in
     let r = signals_range c.args.side g.variables (g.variables + g.clauses) c.args.signals.now c.requires.1 c.loop-x.x-index c.loop-x-test.true in
     omega arith
 
@@ -18,28 +18,28 @@ pub bounds-satisfied-clause : goal.bounds-satisfied-clause
 bounds-satisfied-clause c =
     let g = c.args.game.now in
     let fits : SFits w32 (get_or c.args.signals.now c.loop-x.x-index (pos 0)) = search rules in
-    let is : c.unsigned-abs.result ≡ nat_abs (get_or c.args.signals.now c.loop-x.x-index (pos 0)) = simp to_z-of_z at c.unsigned-abs.ensures.value in
+    let is : c.unsigned_abs.result ≡ nat_abs (get_or c.args.signals.now c.loop-x.x-index (pos 0)) = simp to_z-of_z at c.unsigned_abs.ensures.value in
     let r = signals_range c.args.side g.variables (g.variables + g.clauses) c.args.signals.now c.requires.1 c.loop-x.x-index c.loop-x-test.true in
     let few : c.args.game.now.clauses ≤ 512 = c.requires.0.1 in
     omega arith
 
-pub returns-then-not-is-wanted : goal.returns-then-not-is-wanted
-returns-then-not-is-wanted c =
+pub returns-then-not-is_wanted : goal.returns-then-not-is_wanted
+returns-then-not-is_wanted c =
     let f : ℕ → Bool = λ i. wants c.args.side (get_or c.args.satisfied.now i false) in
     let n = c.args.game.now.variables in
     let fits : SFits w32 (get_or c.args.signals.now c.loop-x.x-index (pos 0)) = search rules in
-    let is : c.unsigned-abs.result ≡ nat_abs (get_or c.args.signals.now c.loop-x.x-index (pos 0)) = simp to_z-of_z at c.unsigned-abs.ensures.value in
-    let same : nat_abs (get_or c.args.signals.now c.loop-x.x-index (pos 0)) - suc n ≡ c.unsigned-abs.result - (n + 1) = omega arith in
-    sym (c.loop-x.invariant ∙ all_fails f n c.args.signals.now c.loop-x.x-index c.loop-x-test.true (ap f same ∙ sym c.if-not-is-wanted.ensures))
+    let is : c.unsigned_abs.result ≡ nat_abs (get_or c.args.signals.now c.loop-x.x-index (pos 0)) = simp to_z-of_z at c.unsigned_abs.ensures.value in
+    let same : nat_abs (get_or c.args.signals.now c.loop-x.x-index (pos 0)) - suc n ≡ c.unsigned_abs.result - (n + 1) = omega arith in
+    sym (c.loop-x.invariant ∙ all_fails f n c.args.signals.now c.loop-x.x-index c.loop-x-test.true (ap f same ∙ sym c.if-not-is_wanted.ensures))
 
 pub loop-x-preserved : goal.loop-x-preserved
 loop-x-preserved c =
     let f : ℕ → Bool = λ i. wants c.args.side (get_or c.args.satisfied.now i false) in
     let n = c.args.game.now.variables in
     let fits : SFits w32 (get_or c.args.signals.now c.loop-x.x-index (pos 0)) = search rules in
-    let is : c.unsigned-abs.result ≡ nat_abs (get_or c.args.signals.now c.loop-x.x-index (pos 0)) = simp to_z-of_z at c.unsigned-abs.ensures.value in
-    let same : nat_abs (get_or c.args.signals.now c.loop-x.x-index (pos 0)) - suc n ≡ c.unsigned-abs.result - (n + 1) = omega arith in
-    c.loop-x.invariant ∙ all_more f n c.args.signals.now c.loop-x.x-index c.loop-x-test.true (ap f same ∙ sym c.if-not-is-wanted.ensures)
+    let is : c.unsigned_abs.result ≡ nat_abs (get_or c.args.signals.now c.loop-x.x-index (pos 0)) = simp to_z-of_z at c.unsigned_abs.ensures.value in
+    let same : nat_abs (get_or c.args.signals.now c.loop-x.x-index (pos 0)) - suc n ≡ c.unsigned_abs.result - (n + 1) = omega arith in
+    c.loop-x.invariant ∙ all_more f n c.args.signals.now c.loop-x.x-index c.loop-x-test.true (ap f same ∙ sym c.if-not-is_wanted.ensures)
 
 pub returns : goal.returns
 returns c =

@@ -17,7 +17,7 @@ overflow-sub-entry c =
     let xs = c.in-Some.entry.now in
     let form = first_form n g.clauses σ vs (row_proper (binds_in g c.args.m) n) (records_of c.loop-entry.rest) (records_of c.next.new.self) xs c.in-Some.ensures.records c.loop-entry.invariant.1 in
     let long = form_long n g.clauses σ vs xs form in
-    omega (arith, c.count-variables-count.ensures.count)
+    omega (arith, c.count_variables-count.ensures.count)
 
 pub fits-requires : goal.fits-requires
 fits-requires c =
@@ -28,9 +28,9 @@ fits-requires c =
     let xs = c.in-Some.entry.now in
     let form = first_form n g.clauses σ vs (row_proper (binds_in g c.args.m) n) (records_of c.loop-entry.rest) (records_of c.next.new.self) xs c.in-Some.ensures.records c.loop-entry.invariant.1 in
     let long = form_long n g.clauses σ vs xs form in
-    let p = length xs - c.count-variables-count.result in
-    let place : length xs - c.count-variables-count.result + length (variables_at g c.args.m) ≡ length xs = omega (arith, c.count-variables-count.ensures.count) in
-    let cut = c.in-Some-split-at-checked.ensures.cases in
+    let p = length xs - c.count_variables-count.result in
+    let place : length xs - c.count_variables-count.result + length (variables_at g c.args.m) ≡ length xs = omega (arith, c.count_variables-count.ensures.count) in
+    let cut = c.in-Some-split_at_checked.ensures.cases in
     (c.requires.0, ap (are_signals σ n (n + g.clauses)) cut.1 ∙ (tests_from_form n g.clauses σ vs xs form p place).0)
 
 pub returns-then-fits : goal.returns-then-fits
@@ -42,12 +42,12 @@ returns-then-fits c =
     let xs = c.in-Some.entry.now in
     let form = first_form n g.clauses σ vs (row_proper (binds_in g c.args.m) n) (records_of c.loop-entry.rest) (records_of c.next.new.self) xs c.in-Some.ensures.records c.loop-entry.invariant.1 in
     let long = form_long n g.clauses σ vs xs form in
-    let p = length xs - c.count-variables-count.result in
-    let place : length xs - c.count-variables-count.result + length (variables_at g c.args.m) ≡ length xs = omega (arith, c.count-variables-count.ensures.count) in
-    let cut = c.in-Some-split-at-checked.ensures.cases in
+    let p = length xs - c.count_variables-count.result in
+    let place : length xs - c.count_variables-count.result + length (variables_at g c.args.m) ≡ length xs = omega (arith, c.count_variables-count.ensures.count) in
+    let cut = c.in-Some-split_at_checked.ensures.cases in
     record {
       found = find_here n g.clauses σ vs (row_proper (binds_in g c.args.m) n) (records_of c.loop-entry.rest) (records_of c.next.new.self) xs c.in-Some.ensures.records c.loop-entry.invariant.1
-          c.in-Some-split-at-checked.signals.now c.in-Some-split-at-checked.values.now p cut.1 cut.2 place (λ i. get_or c.args.satisfied.now i false) (entries_in g c.args.pool.now c.args.m) c.loop-entry.invariant.0 c.if-fits.ensures;
+          c.in-Some-split_at_checked.signals.now c.in-Some-split_at_checked.values.now p cut.1 cut.2 place (λ i. get_or c.args.satisfied.now i false) (entries_in g c.args.pool.now c.args.m) c.loop-entry.invariant.0 c.if-fits.ensures;
       count = omega arith;
     }
 
@@ -60,10 +60,10 @@ loop-entry-preserved c =
     let xs = c.in-Some.entry.now in
     let form = first_form n g.clauses σ vs (row_proper (binds_in g c.args.m) n) (records_of c.loop-entry.rest) (records_of c.next.new.self) xs c.in-Some.ensures.records c.loop-entry.invariant.1 in
     let long = form_long n g.clauses σ vs xs form in
-    let p = length xs - c.count-variables-count.result in
-    let place : length xs - c.count-variables-count.result + length (variables_at g c.args.m) ≡ length xs = omega (arith, c.count-variables-count.ensures.count) in
-    let cut = c.in-Some-split-at-checked.ensures.cases in (
+    let p = length xs - c.count_variables-count.result in
+    let place : length xs - c.count_variables-count.result + length (variables_at g c.args.m) ≡ length xs = omega (arith, c.count_variables-count.ensures.count) in
+    let cut = c.in-Some-split_at_checked.ensures.cases in (
       find_next n g.clauses σ vs (row_proper (binds_in g c.args.m) n) (records_of c.loop-entry.rest) (records_of c.next.new.self) xs c.in-Some.ensures.records c.loop-entry.invariant.1
-          c.in-Some-split-at-checked.signals.now c.in-Some-split-at-checked.values.now p cut.1 cut.2 place (λ i. get_or c.args.satisfied.now i false) (entries_in g c.args.pool.now c.args.m) c.loop-entry.invariant.0 c.if-fits.ensures,
+          c.in-Some-split_at_checked.signals.now c.in-Some-split_at_checked.values.now p cut.1 cut.2 place (λ i. get_or c.args.satisfied.now i false) (entries_in g c.args.pool.now c.args.m) c.loop-entry.invariant.0 c.if-fits.ensures,
       rest_forms n g.clauses σ vs (row_proper (binds_in g c.args.m) n) (records_of c.loop-entry.rest) (records_of c.next.new.self) xs c.in-Some.ensures.records c.loop-entry.invariant.1,
     )

@@ -6,12 +6,12 @@ use Rattle.formula.specs.Game.{has}
 use Rattle.plan.proofs.Playing.{any_more, any_here}
 use Rattle.plan.proofs.plays.is_hit.Goals as goal
 
-pub returns-then-is-among : goal.returns-then-is-among
-returns-then-is-among c =
+pub returns-then-is_among : goal.returns-then-is_among
+returns-then-is_among c =
     let p : ℤ → Bool = λ l. has l c.args.play.now in
     let xs = c.args.clause.now in
     let fits : SFits w32 (get_or c.args.clause.now c.loop-l.l-index (pos 0)) = search rules in
-    let is : p (get_or xs c.loop-l.l-index (pos 0)) ≡ true = sym (subst (λ z. true ≡ p z) (to_z-of_z w32 (get_or xs c.loop-l.l-index (pos 0)) fits) c.if-is-among.ensures) in
+    let is : p (get_or xs c.loop-l.l-index (pos 0)) ≡ true = sym (subst (λ z. true ≡ p z) (to_z-of_z w32 (get_or xs c.loop-l.l-index (pos 0)) fits) c.if-is_among.ensures) in
     sym (c.loop-l.invariant ∙ any_here p xs c.loop-l.l-index c.loop-l-test.true is)
 
 pub loop-l-preserved : goal.loop-l-preserved
@@ -19,7 +19,7 @@ loop-l-preserved c =
     let p : ℤ → Bool = λ l. has l c.args.play.now in
     let xs = c.args.clause.now in
     let fits : SFits w32 (get_or c.args.clause.now c.loop-l.l-index (pos 0)) = search rules in
-    let is : p (get_or xs c.loop-l.l-index (pos 0)) ≡ false = sym (subst (λ z. false ≡ p z) (to_z-of_z w32 (get_or xs c.loop-l.l-index (pos 0)) fits) c.if-is-among.ensures) in
+    let is : p (get_or xs c.loop-l.l-index (pos 0)) ≡ false = sym (subst (λ z. false ≡ p z) (to_z-of_z w32 (get_or xs c.loop-l.l-index (pos 0)) fits) c.if-is_among.ensures) in
     c.loop-l.invariant ∙ any_more p xs c.loop-l.l-index c.loop-l-test.true is
 
 pub returns : goal.returns

@@ -17,7 +17,7 @@ loop-clause-preserved c =
     let few : c.args.game.now.clauses ≤ 512 = c.requires.0.1 in (
       omega arith,
       left_agree C l r c.in-Some.clause.now is inv.1,
-      marked_more C l r c.in-Some.clause.now is inv.1 c.args.play.now c.loop-clause.hit c.loop-clause.i g.clauses inv.0 inv.3 few inv.4 inv.2 c.is-hit.result c.is-hit.ensures,
+      marked_more C l r c.in-Some.clause.now is inv.1 c.args.play.now c.loop-clause.hit c.loop-clause.i g.clauses inv.0 inv.3 few inv.4 inv.2 c.is_hit.result c.is_hit.ensures,
       length-set c.loop-clause.hit _ _ ∙ inv.3,
       omega arith,
     )

@@ -17,20 +17,20 @@ returns-then-m-game g c =
     entry_like (clauses_of game pool) game.variables Device (shown_from game pool (c.args.m + 1)) [] (entry_of game.variables c.args.entry.now) (entry_of game.variables c.args.entry.now) false
     (shown_end game pool (c.args.m + 1) (omega arith)) refl (λ f. absurd (false≢true f), λ w. absurd w)
 
-pub returns-then-not-is-apart : goal.returns-then-not-is-apart
-returns-then-not-is-apart g c =
+pub returns-then-not-is_apart : goal.returns-then-not-is_apart
+returns-then-not-is_apart g c =
     let game = c.args.game.now in
     let pool = c.args.pool.now in
     let n = game.variables in
     let k = game.clauses in
     let C = clauses_of game pool in
-    let A = set_of n c.split-entry-parts.result.signals.now in
-    let x = c.split-entry-parts.result.values.now in
+    let A = set_of n c.split_entry-parts.result.signals.now in
+    let x = c.split_entry-parts.result.values.now in
     let count = clauses_count game pool c.requires.0.sound.formula in
     let out = outside_is c.mark.new.flags A k c.requires.0.limits.1 c.mark.ensures in
     let next = shown_here game pool (c.args.m + 1) (omega arith) (omega (arith, c.requires.0.limits.2, c.requires.0.places)) in
-    let near = not_from_Decides _ c.if-not-is-apart.ensures refl in
-    entry_like C n Device (shown_from game pool (c.args.m + 1)) _ (entry_of n c.args.entry.now) (record { set = A; values = x }) false next c.split-entry-parts.ensures.is
+    let near = not_from_Decides _ c.if-not-is_apart.ensures refl in
+    entry_like C n Device (shown_from game pool (c.args.m + 1)) _ (entry_of n c.args.entry.now) (record { set = A; values = x }) false next c.split_entry-parts.ensures.is
     (λ f. absurd (false≢true f), λ w. absurd (near (misses_apart c.mark.new.flags c.satisfied-hit.result A C x k count out c.satisfied-hit.ensures w.0)))
 
 pub returns : goal.returns
@@ -40,11 +40,11 @@ returns g c =
     let n = game.variables in
     let k = game.clauses in
     let C = clauses_of game pool in
-    let A = set_of n c.split-entry-parts.result.signals.now in
-    let x = c.split-entry-parts.result.values.now in
+    let A = set_of n c.split_entry-parts.result.signals.now in
+    let x = c.split_entry-parts.result.values.now in
     let count = clauses_count game pool c.requires.0.sound.formula in
     let out = outside_is c.mark.new.flags A k c.requires.0.limits.1 c.mark.ensures in
     let next = shown_here game pool (c.args.m + 1) (omega arith) (omega (arith, c.requires.0.limits.2, c.requires.0.places)) in
-    let misses = apart_misses c.mark.new.flags c.satisfied-hit.result A C x k count out c.satisfied-hit.ensures (c.if-not-is-apart.ensures.0 refl) in
-    entry_like C n Device (shown_from game pool (c.args.m + 1)) _ (entry_of n c.args.entry.now) (record { set = A; values = x }) c.is-unsatisfiable.result next c.split-entry-parts.ensures.is
-    (device_next C n k A x count c.is-unsatisfiable.result c.mark.new.flags out (level_shown game pool (c.args.m + 1)) (shown_from game pool (c.args.m + 1 + 1)) misses c.is-unsatisfiable.ensures)
+    let misses = apart_misses c.mark.new.flags c.satisfied-hit.result A C x k count out c.satisfied-hit.ensures (c.if-not-is_apart.ensures.0 refl) in
+    entry_like C n Device (shown_from game pool (c.args.m + 1)) _ (entry_of n c.args.entry.now) (record { set = A; values = x }) c.is_unsatisfiable.result next c.split_entry-parts.ensures.is
+    (device_next C n k A x count c.is_unsatisfiable.result c.mark.new.flags out (level_shown game pool (c.args.m + 1)) (shown_from game pool (c.args.m + 1 + 1)) misses c.is_unsatisfiable.ensures)

@@ -25,19 +25,19 @@ loop-entry-init g c =
     let same : records_of c.chain_rest.result ≡ records pool (level_of game c.args.m).entries = c.chain_rest.ensures.records (c.chain_rest.ensures.sound.1 entries.chain) in
     (subst (λ l. All P (entries_in game pool c.args.m) ↔ All P (each (entry_of game.variables) l)) (sym same) ((λ w. w), (λ w. w)), subst (All Form) (sym same) entries.forms)
 
-pub entry-holds-requires : goal.entry-holds-requires
-entry-holds-requires g c =
+pub entry_holds-requires : goal.entry_holds-requires
+entry_holds-requires g c =
     let game = c.args.game.now in
     let Form : List ℤ → Type 0 = EntryForm game.variables game.clauses (level_of game c.args.m).side (variables_at game c.args.m) in
     (c.requires.0, (c.requires.1.0, (c.requires.1.1, (subst (All Form) c.in-Some.ensures.records c.loop-entry.invariant.1).0)))
 
-pub returns-then-not-entry-holds : goal.returns-then-not-entry-holds
-returns-then-not-entry-holds g c =
+pub returns-then-not-entry_holds : goal.returns-then-not-entry_holds
+returns-then-not-entry_holds g c =
     let game = c.args.game.now in
     let pool = c.args.pool.now in
     let P : Entry → Type 0 = EntryCheck (clauses_of game pool) game.variables c.args.side (shown_from game pool (c.args.m + 1)) in
     let shape = ap (each (entry_of game.variables)) c.in-Some.ensures.records in
-    (λ f. absurd (false≢true f), λ w. absurd (all_broken P _ _ c.loop-entry.invariant.0 _ _ shape (not_from_Decides _ c.if-not-entry-holds.ensures refl) w))
+    (λ f. absurd (false≢true f), λ w. absurd (all_broken P _ _ c.loop-entry.invariant.0 _ _ shape (not_from_Decides _ c.if-not-entry_holds.ensures refl) w))
 
 pub loop-entry-preserved : goal.loop-entry-preserved
 loop-entry-preserved g c =
@@ -46,7 +46,7 @@ loop-entry-preserved g c =
     let P : Entry → Type 0 = EntryCheck (clauses_of game pool) game.variables c.args.side (shown_from game pool (c.args.m + 1)) in
     let Form : List ℤ → Type 0 = EntryForm game.variables game.clauses (level_of game c.args.m).side (variables_at game c.args.m) in
     let shape = ap (each (entry_of game.variables)) c.in-Some.ensures.records in
-    (all_next P _ _ c.loop-entry.invariant.0 _ _ shape (c.if-not-entry-holds.ensures.0 refl), (subst (All Form) c.in-Some.ensures.records c.loop-entry.invariant.1).1)
+    (all_next P _ _ c.loop-entry.invariant.0 _ _ shape (c.if-not-entry_holds.ensures.0 refl), (subst (All Form) c.in-Some.ensures.records c.loop-entry.invariant.1).1)
 
 pub returns : goal.returns
 returns g c =

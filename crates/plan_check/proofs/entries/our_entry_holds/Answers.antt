@@ -16,12 +16,12 @@ returns-then-m-game g c =
     let n = game.variables in
     let k = game.clauses in
     let C = clauses_of game pool in
-    let A = set_of n c.split-entry-parts.result.signals.now in
-    let x = c.split-entry-parts.result.values.now in
+    let A = set_of n c.split_entry-parts.result.signals.now in
+    let x = c.split_entry-parts.result.values.now in
     let count = clauses_count game pool c.requires.0.sound.formula in
     let is = covered_is c.covered-flags.result A (hits C x) k c.covered-flags.ensures in
-    entry_like C n Ours (shown_from game pool (c.args.m + 1)) _ (entry_of n c.args.entry.now) _ c.is-full.result (shown_end game pool (c.args.m + 1) (omega arith)) c.split-entry-parts.ensures.is
-    (our_last C n k A x count c.is-full.result c.covered-flags.result is c.is-full.ensures)
+    entry_like C n Ours (shown_from game pool (c.args.m + 1)) _ (entry_of n c.args.entry.now) _ c.is_full.result (shown_end game pool (c.args.m + 1) (omega arith)) c.split_entry-parts.ensures.is
+    (our_last C n k A x count c.is_full.result c.covered-flags.result is c.is_full.ensures)
 
 pub returns : goal.returns
 returns g c =
@@ -30,10 +30,10 @@ returns g c =
     let n = game.variables in
     let k = game.clauses in
     let C = clauses_of game pool in
-    let A = set_of n c.split-entry-parts.result.signals.now in
-    let x = c.split-entry-parts.result.values.now in
+    let A = set_of n c.split_entry-parts.result.signals.now in
+    let x = c.split_entry-parts.result.values.now in
     let count = clauses_count game pool c.requires.0.sound.formula in
     let is = covered_is c.covered-flags.result A (hits C x) k c.covered-flags.ensures in
     let next = shown_here game pool (c.args.m + 1) (omega arith) (omega (arith, c.requires.0.limits.2, c.requires.0.places)) in
-    entry_like C n Ours (shown_from game pool (c.args.m + 1)) _ (entry_of n c.args.entry.now) _ c.is-unsatisfiable.result next c.split-entry-parts.ensures.is
-    (our_next C n k A x count c.is-unsatisfiable.result c.covered-flags.result is (level_shown game pool (c.args.m + 1)) (shown_from game pool (c.args.m + 1 + 1)) c.is-unsatisfiable.ensures)
+    entry_like C n Ours (shown_from game pool (c.args.m + 1)) _ (entry_of n c.args.entry.now) _ c.is_unsatisfiable.result next c.split_entry-parts.ensures.is
+    (our_next C n k A x count c.is_unsatisfiable.result c.covered-flags.result is (level_shown game pool (c.args.m + 1)) (shown_from game pool (c.args.m + 1 + 1)) c.is_unsatisfiable.ensures)

@@ -7,13 +7,13 @@ use Rattle.plan_check.proofs.Descending.{level_fails, level_next, levels_done}
 use Rattle.plan_check.proofs.Placed.{shown_here, shown_end}
 use Rattle.plan_check.proofs.levels.levels_hold.Goals as goal
 
-pub returns-then-not-level-holds : goal.returns-then-not-level-holds
-returns-then-not-level-holds g c =
+pub returns-then-not-level_holds : goal.returns-then-not-level_holds
+returns-then-not-level_holds g c =
     let game = c.args.game.now in
     let pool = c.args.pool.now in
     let m = c.loop-m.m in
     let is = shown_here game pool m c.loop-m-test.true (omega (arith, c.requires.0.limits.2, c.requires.0.places)) in
-    (λ f. absurd (false≢true f), λ w. absurd (level_fails (clauses_of game pool) game.variables c.args.side c.loop-m.level _ (shown_from game pool m) c.loop-m.invariant (level_shown game pool m) (shown_from game pool (m + 1)) is (not_from_Decides _ c.if-not-level-holds.ensures refl) w))
+    (λ f. absurd (false≢true f), λ w. absurd (level_fails (clauses_of game pool) game.variables c.args.side c.loop-m.level _ (shown_from game pool m) c.loop-m.invariant (level_shown game pool m) (shown_from game pool (m + 1)) is (not_from_Decides _ c.if-not-level_holds.ensures refl) w))
 
 pub loop-m-preserved : goal.loop-m-preserved
 loop-m-preserved g c =
@@ -21,7 +21,7 @@ loop-m-preserved g c =
     let pool = c.args.pool.now in
     let m = c.loop-m.m in
     let is = shown_here game pool m c.loop-m-test.true (omega (arith, c.requires.0.limits.2, c.requires.0.places)) in
-    level_next (clauses_of game pool) game.variables c.args.side c.loop-m.level _ (shown_from game pool m) c.loop-m.invariant (level_shown game pool m) (shown_from game pool (m + 1)) is c.other_level.result c.other_level.ensures (c.if-not-level-holds.ensures.0 refl)
+    level_next (clauses_of game pool) game.variables c.args.side c.loop-m.level _ (shown_from game pool m) c.loop-m.invariant (level_shown game pool m) (shown_from game pool (m + 1)) is c.other_level.result c.other_level.ensures (c.if-not-level_holds.ensures.0 refl)
 
 pub returns : goal.returns
 returns g c =

@@ -16,16 +16,16 @@ returns-then-numbers-ne2 c =
     let b = neg_ℤ (pos (b_signal g.variables g.clauses c.args.i)) in
     (λ f. absurd (false≢true f), λ w. absurd (c.if-numbers-ne2.true (pair_parts b L c.args.numbers.now w).0))
 
-pub returns-then-not-is-opposite : goal.returns-then-not-is-opposite
-returns-then-not-is-opposite c =
+pub returns-then-not-is_opposite : goal.returns-then-not-is_opposite
+returns-then-not-is_opposite c =
     let g = c.args.game.now in
     let ys = c.args.numbers.now in
     let L = literals_at (variables_at g c.args.m) c.args.clause.now in
     let b = neg_ℤ (pos (b_signal g.variables g.clauses c.args.i)) in
     let fits : SFits w32 (get_or c.args.numbers.now 1 (pos 0)) = search rules in
-    let fits-b : SFits w32 c.b-signal.result = search rules in
-    let opposite : neg_ℤ (to_z w32 (of_z w32 c.b-signal.result)) ≡ b = ap neg_ℤ (to_z-of_z w32 c.b-signal.result fits-b ∙ c.b-signal.ensures) in
-    (λ f. absurd (false≢true f), λ w. c.if-not-is-opposite.ensures.1 (to_z-of_z w32 (get_or ys 1 (pos 0)) fits ∙ (pair_parts b L ys w).1 ∙ sym opposite))
+    let fits-b : SFits w32 c.b_signal.result = search rules in
+    let opposite : neg_ℤ (to_z w32 (of_z w32 c.b_signal.result)) ≡ b = ap neg_ℤ (to_z-of_z w32 c.b_signal.result fits-b ∙ c.b_signal.ensures) in
+    (λ f. absurd (false≢true f), λ w. c.if-not-is_opposite.ensures.1 (to_z-of_z w32 (get_or ys 1 (pos 0)) fits ∙ (pair_parts b L ys w).1 ∙ sym opposite))
 
 pub returns : goal.returns
 returns c =
@@ -35,10 +35,10 @@ returns c =
     let b = neg_ℤ (pos (b_signal g.variables g.clauses c.args.i)) in
     let fits : SFits w32 (get_or c.args.numbers.now 1 (pos 0)) = search rules in
     let fits-a : SFits w32 (get_or c.args.numbers.now 0 (pos 0)) = search rules in
-    let fits-b : SFits w32 c.b-signal.result = search rules in
-    let opposite : neg_ℤ (to_z w32 (of_z w32 c.b-signal.result)) ≡ b = ap neg_ℤ (to_z-of_z w32 c.b-signal.result fits-b ∙ c.b-signal.ensures) in
-    let second : get_or ys 1 (pos 0) ≡ b = sym (to_z-of_z w32 (get_or ys 1 (pos 0)) fits) ∙ c.if-not-is-opposite.ensures.0 refl ∙ opposite in
+    let fits-b : SFits w32 c.b_signal.result = search rules in
+    let opposite : neg_ℤ (to_z w32 (of_z w32 c.b_signal.result)) ≡ b = ap neg_ℤ (to_z-of_z w32 c.b_signal.result fits-b ∙ c.b_signal.ensures) in
+    let second : get_or ys 1 (pos 0) ≡ b = sym (to_z-of_z w32 (get_or ys 1 (pos 0)) fits) ∙ c.if-not-is_opposite.ensures.0 refl ∙ opposite in
     let first = to_z-of_z w32 (get_or ys 0 (pos 0)) fits-a in
-    Decides-like c.is-opposed.result
+    Decides-like c.is_opposed.result
     (λ h. pair_in b L ys c.if-numbers-ne2.false second (subst (λ z. In z (each neg_ℤ L)) first h))
-    (λ w. subst (λ z. In z (each neg_ℤ L)) (sym first) (pair_parts b L ys w).2) c.is-opposed.ensures
+    (λ w. subst (λ z. In z (each neg_ℤ L)) (sym first) (pair_parts b L ys w).2) c.is_opposed.ensures

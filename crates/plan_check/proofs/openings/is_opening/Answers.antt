@@ -17,22 +17,22 @@ pub loop-clause-init : goal.loop-clause-init
 loop-clause-init c =
     let g = c.args.game.now in
     let rs = records c.args.pool.now g.formula in
-    let sound : c.new-rest.result.whole ≡ true = c.new-rest.ensures.sound.1 (subst (λ m. Sound m c.args.pool.now g.used g.formula) (sym c.count-signals.ensures.value) c.requires.0.sound.formula.chain) in
+    let sound : c.new-rest.result.whole ≡ true = c.new-rest.ensures.sound.1 (subst (λ m. Sound m c.args.pool.now g.used g.formula) (sym c.count_signals.ensures.value) c.requires.0.sound.formula.chain) in
     let same : records_of c.new-rest.result ≡ rs = c.new-rest.ensures.records sound in (
       ap length same ∙ c.requires.0.sound.formula.count,
       omega arith,
-      omega (arith, c.new-rest.ensures.signals, c.count-signals.ensures.few),
+      omega (arith, c.new-rest.ensures.signals, c.count_signals.ensures.few),
       ([], ap turned (sym same)),
       (λ i l u h. absurd (omega arith)),
     )
 
-pub is-clause-record-requires : goal.is-clause-record-requires
-is-clause-record-requires c =
+pub is_clause_record-requires : goal.is_clause_record-requires
+is_clause_record-requires c =
     let more = ap length c.in-Some.ensures.records in
     (c.requires.0.limits, (c.requires.1, (omega (arith, c.loop-clause.invariant.0, c.loop-clause.invariant.1, more), small_numbers _ c.in-Some.clause.now c.loop-clause.invariant.2 c.in-Some.ensures.literals)))
 
-pub returns-then-is-clause-record : goal.returns-then-is-clause-record
-returns-then-is-clause-record c =
+pub returns-then-is_clause_record : goal.returns-then-is_clause_record
+returns-then-is_clause_record c =
     let g = c.args.game.now in
     let C = clauses_of g c.args.pool.now in
     let vs = variables_at g c.args.m in
@@ -48,7 +48,7 @@ returns-then-is-clause-record c =
     let is = inv.3.1 ∙ ap (λ l. onto l inv.3.0) shape in
     let count : length C ≡ g.clauses = omega (arith, length-onto (records c.args.pool.now g.formula) [], c.requires.0.sound.formula.count) in
     let made = made_here C g.variables g.clauses c.args.side vs last count rest inv.3.0 k left is long in
-    let found : In ys (clause_records C g.variables c.args.side vs last (left - 1)) = subst (In ys) (sym made) (c.if-is-clause-record.ensures.0 refl) in
+    let found : In ys (clause_records C g.variables c.args.side vs last (left - 1)) = subst (In ys) (sym made) (c.if-is_clause_record.ensures.0 refl) in
     let same = open_here g c.args.pool.now C g.variables c.args.side vs c.args.m c.requires.1 (omega (arith, c.requires.0.limits.2, c.requires.0.places)) in
     (λ _. subst (In ys) (sym same) (gather_in (clause_records C g.variables c.args.side vs last) ys 0 (length C) (left - 1) (omega arith) (omega (arith, inv.0, inv.1, more)) found), λ _. refl)
 
@@ -69,7 +69,7 @@ loop-clause-preserved c =
     let is = inv.3.1 ∙ ap (λ l. onto l inv.3.0) shape in
     let count : length C ≡ g.clauses = omega (arith, length-onto (records c.args.pool.now g.formula) [], c.requires.0.sound.formula.count) in
     let made = made_here C g.variables g.clauses c.args.side vs last count rest inv.3.0 k left is long in
-    let none = not_from_Decides _ c.if-is-clause-record.ensures refl in (
+    let none = not_from_Decides _ c.if-is_clause_record.ensures refl in (
       long,
       omega (arith, inv.1),
       omega (arith, inv.2, c.next.ensures.same.0),

@@ -9,24 +9,24 @@ use Rattle.plan_check.specs.Made.{literals_at}
 use Rattle.plan_check.proofs.Fronts.{kept, left_out, opposed_skip, opposed_here, opposed_next, opposed_none}
 use Rattle.plan_check.proofs.openings.is_opposed.Goals as goal
 
-pub loop-l-preserved-then-not-is-at : goal.loop-l-preserved-then-not-is-at
-loop-l-preserved-then-not-is-at c =
+pub loop-l-preserved-then-not-is_at : goal.loop-l-preserved-then-not-is_at
+loop-l-preserved-then-not-is_at c =
     let p : ℤ → Bool = λ l. elem (nat_abs l) (variables_at c.args.game.now c.args.m) in
     let xs = c.args.clause.now in
     let j = c.loop-l.l-index in
     let fits : SFits w32 (get_or c.args.clause.now c.loop-l.l-index (pos 0)) = search rules in
-    let e = left_out p xs j _ (to_z-of_z w32 (get_or xs j (pos 0)) fits) c.loop-l-test.true (sym c.if-not-is-at.ensures) in
+    let e = left_out p xs j _ (to_z-of_z w32 (get_or xs j (pos 0)) fits) c.loop-l-test.true (sym c.if-not-is_at.ensures) in
     opposed_skip _ _ _ c.loop-l.invariant _ e
 
-pub returns-then-is-opposite : goal.returns-then-is-opposite
-returns-then-is-opposite c =
+pub returns-then-is_opposite : goal.returns-then-is_opposite
+returns-then-is_opposite c =
     let vs = variables_at c.args.game.now c.args.m in
     let p : ℤ → Bool = λ l. elem (nat_abs l) vs in
     let xs = c.args.clause.now in
     let j = c.loop-l.l-index in
     let fits : SFits w32 (get_or c.args.clause.now c.loop-l.l-index (pos 0)) = search rules in
-    let e = kept p xs j _ (to_z-of_z w32 (get_or xs j (pos 0)) fits) c.loop-l-test.true (sym c.if-not-is-at.ensures) in
-    let found = opposed_here _ _ _ c.loop-l.invariant _ _ e (c.if-is-opposite.ensures.0 refl) in
+    let e = kept p xs j _ (to_z-of_z w32 (get_or xs j (pos 0)) fits) c.loop-l-test.true (sym c.if-not-is_at.ensures) in
+    let found = opposed_here _ _ _ c.loop-l.invariant _ _ e (c.if-is_opposite.ensures.0 refl) in
     (λ _. subst (λ z. In z (each neg_ℤ (literals_at vs xs))) (to_z-of_z w32 c.args.x c.ranges.x) found, λ _. refl)
 
 pub loop-l-preserved : goal.loop-l-preserved
@@ -35,8 +35,8 @@ loop-l-preserved c =
     let xs = c.args.clause.now in
     let j = c.loop-l.l-index in
     let fits : SFits w32 (get_or c.args.clause.now c.loop-l.l-index (pos 0)) = search rules in
-    let e = kept p xs j _ (to_z-of_z w32 (get_or xs j (pos 0)) fits) c.loop-l-test.true (sym c.if-not-is-at.ensures) in
-    opposed_next _ _ _ c.loop-l.invariant _ _ e (not_from_Decides _ c.if-is-opposite.ensures refl)
+    let e = kept p xs j _ (to_z-of_z w32 (get_or xs j (pos 0)) fits) c.loop-l-test.true (sym c.if-not-is_at.ensures) in
+    opposed_next _ _ _ c.loop-l.invariant _ _ e (not_from_Decides _ c.if-is_opposite.ensures refl)
 
 pub returns : goal.returns
 returns c =

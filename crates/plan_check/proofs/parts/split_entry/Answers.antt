@@ -13,7 +13,7 @@ pub overflow-sub-entry : goal.overflow-sub-entry
 overflow-sub-entry c =
     let g = c.args.game.now in
     let long = form_long g.variables g.clauses (level_of g c.args.m).side (variables_at g c.args.m) c.args.entry.now c.requires.1.1 in
-    omega (arith, c.count-variables.ensures.count)
+    omega (arith, c.count_variables.ensures.count)
 
 pub returns : goal.returns
 returns c =
@@ -24,8 +24,8 @@ returns c =
     let xs = c.args.entry.now in
     let form = c.requires.1.1 in
     let long = form_long n g.clauses σ vs xs form in
-    let p = length xs - c.count-variables.result in
-    let place : length xs - c.count-variables.result + length (variables_at g c.args.m) ≡ length xs = omega (arith, c.count-variables.ensures.count) in
+    let p = length xs - c.count_variables.result in
+    let place : length xs - c.count_variables.result + length (variables_at g c.args.m) ≡ length xs = omega (arith, c.count_variables.ensures.count) in
     let cut = c.in-Some.ensures.cases in
     let signs = ap (are_signals σ n (n + g.clauses)) cut.1 ∙ (tests_from_form n g.clauses σ vs xs form p place).0 in
     record {

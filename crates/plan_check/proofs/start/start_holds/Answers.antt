@@ -31,8 +31,8 @@ returns-in-Ours-Ours g c =
     let C = clauses_of game pool in
     let some : 0 < c.args.game.now.depth = omega arith in
     let is = shown_here game pool 0 some (omega (arith, c.requires.0.limits.2, c.requires.0.places)) in
-    start_like C game.variables c.args.side Ours c.args.first Ours (levels_shown game pool) _ c.is-entered.result c.in-Ours-Ours.is-0 c.in-Ours-Ours.is-1 is
-    (empty_entry (entries_in game pool 0) c.is-entered.result c.is-entered.ensures)
+    start_like C game.variables c.args.side Ours c.args.first Ours (levels_shown game pool) _ c.is_entered.result c.in-Ours-Ours.is-0 c.in-Ours-Ours.is-1 is
+    (empty_entry (entries_in game pool 0) c.is_entered.result c.is_entered.ensures)
 
 pub returns-in-Ours-Device : goal.returns-in-Ours-Device
 returns-in-Ours-Device g c =
@@ -41,8 +41,8 @@ returns-in-Ours-Device g c =
     let C = clauses_of game pool in
     let some : 0 < c.args.game.now.depth = omega arith in
     let is = shown_here game pool 0 some (omega (arith, c.requires.0.limits.2, c.requires.0.places)) in
-    start_like C game.variables c.args.side Ours c.args.first Device (levels_shown game pool) _ c.is-unsatisfiable.result c.in-Ours-Device.is-0 c.in-Ours-Device.is-1 is
-    (device_first C game.variables game.clauses (clauses_count game pool c.requires.0.sound.formula) (level_shown game pool 0) (shown_from game pool 1) c.is-unsatisfiable.result c.is-unsatisfiable.ensures)
+    start_like C game.variables c.args.side Ours c.args.first Device (levels_shown game pool) _ c.is_unsatisfiable.result c.in-Ours-Device.is-0 c.in-Ours-Device.is-1 is
+    (device_first C game.variables game.clauses (clauses_count game pool c.requires.0.sound.formula) (level_shown game pool 0) (shown_from game pool 1) c.is_unsatisfiable.result c.is_unsatisfiable.ensures)
 
 pub returns-in-Device-Ours : goal.returns-in-Device-Ours
 returns-in-Device-Ours g c =
@@ -51,8 +51,8 @@ returns-in-Device-Ours g c =
     let C = clauses_of game pool in
     let some : 0 < c.args.game.now.depth = omega arith in
     let is = shown_here game pool 0 some (omega (arith, c.requires.0.limits.2, c.requires.0.places)) in
-    start_like C game.variables c.args.side Device c.args.first Ours (levels_shown game pool) _ c.is-unsatisfiable-in-Device-Ours.result c.in-Device-Ours.is-0 c.in-Device-Ours.is-1 is
-    (our_first C game.variables game.clauses (clauses_count game pool c.requires.0.sound.formula) (level_shown game pool 0) (shown_from game pool 1) c.is-unsatisfiable-in-Device-Ours.result c.is-unsatisfiable-in-Device-Ours.ensures)
+    start_like C game.variables c.args.side Device c.args.first Ours (levels_shown game pool) _ c.is_unsatisfiable-in-Device-Ours.result c.in-Device-Ours.is-0 c.in-Device-Ours.is-1 is
+    (our_first C game.variables game.clauses (clauses_count game pool c.requires.0.sound.formula) (level_shown game pool 0) (shown_from game pool 1) c.is_unsatisfiable-in-Device-Ours.result c.is_unsatisfiable-in-Device-Ours.ensures)
 
 pub returns-in-Device-Device : goal.returns-in-Device-Device
 returns-in-Device-Device g c =
@@ -61,20 +61,20 @@ returns-in-Device-Device g c =
     let C = clauses_of game pool in
     let some : 0 < c.args.game.now.depth = omega arith in
     let is = shown_here game pool 0 some (omega (arith, c.requires.0.limits.2, c.requires.0.places)) in
-    start_like C game.variables c.args.side Device c.args.first Device (levels_shown game pool) _ c.has-entry.result c.in-Device-Device.is-0 c.in-Device-Device.is-1 is c.has-entry.ensures
+    start_like C game.variables c.args.side Device c.args.first Device (levels_shown game pool) _ c.has_entry.result c.in-Device-Device.is-0 c.in-Device-Device.is-1 is c.has_entry.ensures
 
-pub is-entered-requires : goal.is-entered-requires
-is-entered-requires g c =
+pub is_entered-requires : goal.is_entered-requires
+is_entered-requires g c =
     let some : 0 < c.args.game.now.depth = omega arith in
     (c.requires.0.limits, (omega arith, (c.requires.0.sound.levels 0 some).entries))
 
-pub has-entry-requires : goal.has-entry-requires
-has-entry-requires g c =
+pub has_entry-requires : goal.has_entry-requires
+has_entry-requires g c =
     let some : 0 < c.args.game.now.depth = omega arith in
     (c.requires.0.limits, (omega arith, (c.requires.0.sound.levels 0 some).entries))
 
-pub is-unsatisfiable-requires : goal.is-unsatisfiable-requires
-is-unsatisfiable-requires g c = (c.requires.0, (omega arith, c.requires.1))
+pub is_unsatisfiable-requires : goal.is_unsatisfiable-requires
+is_unsatisfiable-requires g c = (c.requires.0, (omega arith, c.requires.1))
 
-pub is-unsatisfiable-requires-in-Device-Ours : goal.is-unsatisfiable-requires-in-Device-Ours
-is-unsatisfiable-requires-in-Device-Ours g c = (c.requires.0, (omega arith, c.requires.1))
+pub is_unsatisfiable-requires-in-Device-Ours : goal.is_unsatisfiable-requires-in-Device-Ours
+is_unsatisfiable-requires-in-Device-Ours g c = (c.requires.0, (omega arith, c.requires.1))

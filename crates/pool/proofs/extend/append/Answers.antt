@@ -15,7 +15,7 @@ returns c =
     let end' : c.min-end.result ≤ 2147483647 = search rules in
     let room : Room (length pool) used head (length xs) = record { below = omega arith; within = omega arith; indexed = omega arith } in
     let ends : c.max-at.result + 2 + length xs ≡ place_after used + size_for (length xs) = omega arith in
-    let same = words_written pool used head c.max-at.result xs c.copy-from-slice.new.self at room c.copy-from-slice.ensures.after in
+    let same = words_written pool used head c.max-at.result xs c.copy_from_slice.new.self at room c.copy_from_slice.ensures.after in
     record {
       written = (room, same, at, ends);
       grows = λ s sound named. grows_from s pool used head xs room _ _ _ same at ends sound named;

@@ -10,7 +10,7 @@ pub loop-x-preserved : goal.loop-x-preserved
 loop-x-preserved c =
     let x = get_or c.args.numbers.now c.loop-x.x-index (pos 0) in
     let fits : SFits w32 x = search rules in
-    let is : c.unsigned-abs.result ≡ nat_abs x = simp to_z-of_z at c.unsigned-abs.ensures.value in
+    let is : c.unsigned_abs.result ≡ nat_abs x = simp to_z-of_z at c.unsigned_abs.ensures.value in
     All-more (Literal c.args.s) c.args.numbers.now c.loop-x.x-index (pos 0) c.loop-x-test.true c.loop-x.invariant
     (grind (arith, ints), omega arith)
 
@@ -25,7 +25,7 @@ returns-then-x-eq0 c =
           elim c.then-x-eq0.branch [
             | then-x-eq0-via-then-x-eq0 w ↦ grind (arith, ints)
             | then-x-eq0-via-else-x-eq0+then-unsigned-abs-s w ↦
-                let is : w.unsigned-abs.result ≡ nat_abs x = simp to_z-of_z at w.unsigned-abs.ensures.value in
+                let is : w.unsigned_abs.result ≡ nat_abs x = simp to_z-of_z at w.unsigned_abs.ensures.value in
                 absurd (omega arith)
           ]),
     )

@@ -11,8 +11,8 @@ use Rattle.propagation.proofs.Growing.{back_less}
 use Rattle.propagation.proofs.Blocks.{shaped_unset, blocked_unmarked, blocked_forced, blocked_all}
 use Rattle.propagation.proofs.conflict.explain.Goals as goal
 
-pub mark-signals-requires : goal.mark-signals-requires
-mark-signals-requires c =
+pub mark_signals-requires : goal.mark_signals-requires
+mark_signals-requires c =
     let row = c.loop-t.values in
     let i = get_or c.args.trail.now (c.loop-t.t - 1) 0 in
     let long = length-set row i (pos 0) in
@@ -30,13 +30,13 @@ loop-t-preserved-in-Some c =
     let fits : SFits w32 (get_or row i (pos 0)) = search rules in
     let found = c.in-Some.ensures in
     let forced : Forced (set row i (pos 0)) c.in-Some.numbers.now (at row i) = simp to_z-of_z at found.1 in
-    let grows = c.mark-signals.ensures.grows in (
+    let grows = c.mark_signals.ensures.grows in (
       omega arith,
       omega arith,
       shaped_unset row i c.loop-t.invariant.2,
       back_less c.loop-t.t c.args.mark c.args.trail.now row (omega arith) ∙ c.loop-t.invariant.3,
       ⊎_elim
-          (λ blocked. inl (blocked_forced cs marks c.mark-signals.new.marks row i (at row i) c.in-Some.numbers.now refl grows c.mark-signals.ensures.marked c.loop-t.invariant.2 found.0 forced found.2 blocked))
+          (λ blocked. inl (blocked_forced cs marks c.mark_signals.new.marks row i (at row i) c.in-Some.numbers.now refl grows c.mark_signals.ensures.marked c.loop-t.invariant.2 found.0 forced found.2 blocked))
           (λ all. inr (λ k h. grows k (all k (omega arith))))
           c.loop-t.invariant.4,
     )

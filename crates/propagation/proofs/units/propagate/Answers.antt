@@ -13,8 +13,8 @@ use Rattle.propagation.proofs.Growing.{opens_pos}
 use Rattle.propagation.proofs.Growth.{grown_forced, blocked_fails, traced_from}
 use Rattle.propagation.proofs.units.propagate.Goals as goal
 
-pub mark-signals-requires : goal.mark-signals-requires
-mark-signals-requires c =
+pub mark_signals-requires : goal.mark_signals-requires
+mark_signals-requires c =
     let space = c.requires.space in
     let same = c.records.invariant.2 in
     let long : length c.records.values ≤ length c.fill.new.self = search rules in
@@ -34,9 +34,9 @@ explain-requires c =
     let literals : All (Literal (length row)) xs = subst (λ n. All (Literal n) xs) same c.in-Some.ensures.literals in
     let member : (a : ℕ → Bool) → chain a cs ≡ true → clause a xs ≡ true =
     λ a meets. (chain_parts a (records_of c.records.rest) xs (records_of c.next.new.self) c.in-Some.ensures.records (c.records.invariant.3 a meets)).0 in
-    let blocked = blocked_fails cs c.mark-signals.new.marks row xs grown.noted.shaped literals c.mark-signals.ensures.marked c.in-Fails.ensures member in
-    let wide : length row ≤ length c.mark-signals.new.marks = search rules in
-    traced_from c.args.chain.signals cs c.args.values.now c.args.trail.now c.args.mark row c.records.trail c.records.top c.mark-signals.new.marks (omega arith) wide (omega arith) grown blocked
+    let blocked = blocked_fails cs c.mark_signals.new.marks row xs grown.noted.shaped literals c.mark_signals.ensures.marked c.in-Fails.ensures member in
+    let wide : length row ≤ length c.mark_signals.new.marks = search rules in
+    traced_from c.args.chain.signals cs c.args.values.now c.args.trail.now c.args.mark row c.records.trail c.records.top c.mark_signals.new.marks (omega arith) wide (omega arith) grown blocked
 
 pub returns-in-Fails : goal.returns-in-Fails
 returns-in-Fails c =

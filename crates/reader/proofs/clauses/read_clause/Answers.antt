@@ -15,8 +15,8 @@ returns-then-numeral-eq0 c =
     let n = size c.args.words.now in
     let kept : old.clauses ≡ (drawn c.args.draft.now).clauses = c.loop-numeral.invariant.1 in
     let room : length old.clauses < 512 = omega (arith, ap length kept, c.requires) in
-    let yes : c.end-clause.result ≡ true = c.end-clause.ensures.ended ∙ lt-ltb _ _ room in
-    let done : drawn c.end-clause.new.self ≡ closed old = c.end-clause.ensures.after ∙ ap (λ r. cond r (closed old) old) yes in
+    let yes : c.end_clause.result ≡ true = c.end_clause.ensures.ended ∙ lt-ltb _ _ room in
+    let done : drawn c.end_clause.new.self ≡ closed old = c.end_clause.ensures.after ∙ ap (λ r. cond r (closed old) old) yes in
     let same : size c.loop-numeral.words ≡ n = c.loop-numeral.invariant.0 in
     let zero : nat_abs c.in-ok-numeral.numeral.value ≡ 0 = search rules in
     record {

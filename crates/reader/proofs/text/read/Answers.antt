@@ -8,8 +8,8 @@ use Rattle.reader.proofs.text.read.Goals as goal
 
 pub returns : goal.returns
 returns c =
-    let is : formula_in c.read-words.result ≡ reads c.args.text.now = search rules in
-    record { result = is; writes = written_or_not c.args.text.now c.read-words.result is }
+    let is : formula_in c.read_words.result ≡ reads c.args.text.now = search rules in
+    record { result = is; writes = written_or_not c.args.text.now c.read_words.result is }
 
 pub returns-then-text-gt-MAX-TEXT : goal.returns-then-text-gt-MAX-TEXT
 returns-then-text-gt-MAX-TEXT c =

@@ -6,8 +6,8 @@ use Rattle.reader.proofs.words.skip.Goals as goal
 pub loop-i-preserved : goal.loop-i-preserved
 loop-i-preserved c = (omega arith, omega arith, omega (arith, prefix_len-drop_yes blank c.args.text.now c.loop-i.i 0 (omega arith) (search rules)))
 
-pub returns-else-is-blank : goal.returns-else-is-blank
-returns-else-is-blank c =
+pub returns-else-is_blank : goal.returns-else-is_blank
+returns-else-is_blank c =
     let no : blank (get_or c.args.text.now c.loop-i.i 0) ≡ false = search rules in
     record {
       place = omega (arith, prefix_len-drop_no blank c.args.text.now c.loop-i.i 0 (omega arith) no);

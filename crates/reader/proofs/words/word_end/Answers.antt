@@ -6,8 +6,8 @@ use Rattle.reader.proofs.words.word_end.Goals as goal
 pub loop-i-preserved : goal.loop-i-preserved
 loop-i-preserved c = (omega arith, omega arith, omega (arith, prefix_len-drop_yes in_word c.args.text.now c.loop-i.i 0 (omega arith) (search rules)))
 
-pub returns-else-not-is-blank : goal.returns-else-not-is-blank
-returns-else-not-is-blank c = record {
+pub returns-else-not-is_blank : goal.returns-else-not-is_blank
+returns-else-not-is_blank c = record {
   place = omega (arith, prefix_len-drop_no in_word c.args.text.now c.loop-i.i 0 (omega arith) (search rules));
   within = (omega arith, omega arith);
 }

@@ -8,8 +8,8 @@ use Rattle.rules.specs.Changes.{changed, said, values_said, Marked}
 use Rattle.rules.specs.Spare.{Readable}
 use Rattle.rules.proofs.answers.apply.Goals as goal
 
-pub give-back-requires : goal.give-back-requires
-give-back-requires c =
+pub give_back-requires : goal.give_back-requires
+give_back-requires c =
     let g = c.args.game.now in
     let words = c.args.words.now in
     let n = c.in-default-default-No.field-0-2 in

@@ -16,8 +16,8 @@ note-requires c =
     let σ = (level_of g m).side in
     let C = clauses_of g c.args.pool.now in
     let x = values_in g.variables (level_of g (m - 1)) in
-    let is : take (c.named-set-count.result - 0) c.named-set-count.new.set ≡ entry_set C σ (clauses_named g.variables g.clauses σ c.args.names.now) x =
-    ap (λ n. take n c.named-set-count.new.set) (sub-zero c.named-set-count.result) ∙ c.named-set-count.ensures.clauses in
+    let is : take (c.named_set-count.result - 0) c.named_set-count.new.set ≡ entry_set C σ (clauses_named g.variables g.clauses σ c.args.names.now) x =
+    ap (λ n. take n c.named_set-count.new.set) (sub-zero c.named_set-count.result) ∙ c.named_set-count.ensures.clauses in
     let here : m - 1 < g.depth = omega (arith, c.requires.1.1.0) in
     let few : length x ≤ bound_by g = subst (λ n. n ≤ bound_by g) (sym (length-each _ (variables_in g.variables (level_of g (m - 1))))) (level_few g (m - 1) here) in
     (c.requires.0, (here, (subst (SetOf g) (sym is) (named_set_of g C σ c.args.names.now x c.requires.1.1.1.0 c.requires.1.1.1.1), few)))

@@ -12,7 +12,7 @@ pub loop-clause-init : goal.loop-clause-init
 loop-clause-init c =
     let g = c.args.game.now in
     let rs = records c.args.pool.now g.formula in
-    let sound : c.new-chain.result.whole ≡ true = c.new-chain.ensures.sound.1 (subst (λ m. Sound m c.args.pool.now g.used g.formula) (sym c.count-signals.ensures.value) c.requires.1.chain) in
+    let sound : c.new-chain.result.whole ≡ true = c.new-chain.ensures.sound.1 (subst (λ m. Sound m c.args.pool.now g.used g.formula) (sym c.count_signals.ensures.value) c.requires.1.chain) in
     let same : records_of c.new-chain.result ≡ rs = c.new-chain.ensures.records sound in
     let count : length rs ≡ g.clauses = c.requires.1.count in
     let whole = length-onto rs [] in (
@@ -24,8 +24,8 @@ loop-clause-init c =
       (λ i h. refl),
     )
 
-pub loop-clause-preserved-then-not-is-hit : goal.loop-clause-preserved-then-not-is-hit
-loop-clause-preserved-then-not-is-hit c =
+pub loop-clause-preserved-then-not-is_hit : goal.loop-clause-preserved-then-not-is_hit
+loop-clause-preserved-then-not-is_hit c =
     let g = c.args.game.now in
     let C = clauses_of g c.args.pool.now in
     let x = values_in g.variables c.args.level.now in
@@ -42,7 +42,7 @@ loop-clause-preserved-then-not-is-hit c =
       inv.1,
       omega (arith, inv.2),
       (k ∷ inv.3.0, is),
-      miss_above C x c.args.marks.now c.loop-clause.marks rest inv.3.0 k left is long some inv.4 inv.5 (sym c.if-not-is-hit.ensures),
+      miss_above C x c.args.marks.now c.loop-clause.marks rest inv.3.0 k left is long some inv.4 inv.5 (sym c.if-not-is_hit.ensures),
       miss_under C x c.args.marks.now c.loop-clause.marks rest inv.3.0 k left is long some inv.4 inv.5,
     )
 
@@ -65,6 +65,6 @@ loop-clause-preserved c =
       length-set c.loop-clause.marks (left - 1) true ∙ inv.1,
       omega (arith, inv.2),
       (k ∷ inv.3.0, is),
-      hit_above C x c.args.marks.now c.loop-clause.marks rest inv.3.0 k left is long some inv.4 inv.5 room (sym c.if-not-is-hit.ensures),
+      hit_above C x c.args.marks.now c.loop-clause.marks rest inv.3.0 k left is long some inv.4 inv.5 room (sym c.if-not-is_hit.ensures),
       hit_under C x c.args.marks.now c.loop-clause.marks rest inv.3.0 k left is long some inv.4 inv.5 room,
     )

@@ -11,5 +11,5 @@ pub learn-requires : goal.learn-requires
 learn-requires c =
     let g = c.args.game.now in
     let C : Clauses = replicate g.clauses [] in
-    let long = ap (λ m. length (take m c.put-learned-count.new.buffer)) (sub-zero c.put-learned-count.result) ∙ ap length (c.put-learned-count.ensures.numbers C (length-replicate g.clauses [])) ∙ length_learned C g.variables (level_of g c.args.j).side c.args.set.now in
+    let long = ap (λ m. length (take m c.put_learned-count.new.buffer)) (sub-zero c.put_learned-count.result) ∙ ap length (c.put_learned-count.ensures.numbers C (length-replicate g.clauses [])) ∙ length_learned C g.variables (level_of g c.args.j).side c.args.set.now in
     (c.requires.1.0, subst (Room (length c.args.pool.now) g.used (level_of g c.args.j).chain) (sym long) c.requires.1.1.1)

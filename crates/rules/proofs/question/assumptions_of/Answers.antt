@@ -9,12 +9,12 @@ use Rattle.strategy.specs.Questions.{assumed, assumed_clauses}
 use Rattle.layout.proofs.Keeping.{passed, failed, pushed, none_left}
 use Rattle.rules.proofs.question.assumptions_of.Goals as goal
 
-pub loop-clause-preserved-then-not-is-assumed : goal.loop-clause-preserved-then-not-is-assumed
-loop-clause-preserved-then-not-is-assumed c =
+pub loop-clause-preserved-then-not-is_assumed : goal.loop-clause-preserved-then-not-is_assumed
+loop-clause-preserved-then-not-is_assumed c =
     let before : ℕ → Bool = λ i. get_or c.args.satisfied.now i false in
     let g : ℕ → ℤ = λ i. neg_ℤ (pos (signal c.args.variables c.args.clauses c.args.side i)) in
     let i = c.loop-clause.clause in
-    let e = failed g (assumed c.args.side before) c.args.clauses i c.loop-clause-test.true (sym (c.if-not-is-assumed.ensures before i refl)) in
+    let e = failed g (assumed c.args.side before) c.args.clauses i c.loop-clause-test.true (sym (c.if-not-is_assumed.ensures before i refl)) in
     (ap (λ l. take c.loop-clause.count c.loop-clause.buffer ++ l) (sym e) ∙ c.loop-clause.invariant.0, omega (arith, c.loop-clause.invariant.1), c.loop-clause.invariant.2)
 
 pub loop-clause-preserved : goal.loop-clause-preserved
@@ -23,7 +23,7 @@ loop-clause-preserved c =
     let g : ℕ → ℤ = λ i. neg_ℤ (pos (signal c.args.variables c.args.clauses c.args.side i)) in
     let i = c.loop-clause.clause in
     let fits : SFits w32 c.assumption.result = search rules in
-    let e = passed g (assumed c.args.side before) c.args.clauses i c.loop-clause-test.true (sym (c.if-not-is-assumed.ensures before i refl)) in
+    let e = passed g (assumed c.args.side before) c.args.clauses i c.loop-clause-test.true (sym (c.if-not-is_assumed.ensures before i refl)) in
     let room : c.loop-clause.count < length c.loop-clause.buffer = omega (arith, c.loop-clause.invariant.1, c.loop-clause.invariant.2, c.requires.1) in (
       pushed c.loop-clause.buffer c.loop-clause.count _ (g i) _ _ _ room (to_z-of_z w32 c.assumption.result fits ∙ c.assumption.ensures) e c.loop-clause.invariant.0,
       omega (arith, c.loop-clause.invariant.1),

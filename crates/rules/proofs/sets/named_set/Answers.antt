@@ -42,22 +42,22 @@ set_by : (C : Clauses) (σ : Side) (A : List ℕ) (x : Values) → keep (λ i. w
 set_by C Ours A x = all_kept A
 set_by C Device A x = refl
 
-pub loop-j-preserved-then-not-is-wanted : goal.loop-j-preserved-then-not-is-wanted
-loop-j-preserved-then-not-is-wanted c =
+pub loop-j-preserved-then-not-is_wanted : goal.loop-j-preserved-then-not-is_wanted
+loop-j-preserved-then-not-is_wanted c =
     let g = c.args.game.now in
-    let p : ℕ → Bool = λ i. wanted c.args.side (get_or c.mark-hits.new.marks i false) in
+    let p : ℕ → Bool = λ i. wanted c.args.side (get_or c.mark_hits.new.marks i false) in
     let fits : SFits w32 (get_or c.args.names.now c.loop-j.j (pos 0)) = search rules in
-    let is = clause_by g.variables g.clauses c.args.side (get_or c.args.names.now c.loop-j.j (pos 0)) c.magnitude.result c.base-of-base.result (c.magnitude.ensures ∙ ap nat_abs (to_z-of_z w32 (get_or c.args.names.now c.loop-j.j (pos 0)) fits)) c.base-of-base.ensures.value in
-    let e = left_here g.variables g.clauses c.args.side p c.args.names.now c.loop-j.j c.loop-j-test.true _ is (sym c.if-not-is-wanted.ensures) in
+    let is = clause_by g.variables g.clauses c.args.side (get_or c.args.names.now c.loop-j.j (pos 0)) c.magnitude.result c.base_of-base.result (c.magnitude.ensures ∙ ap nat_abs (to_z-of_z w32 (get_or c.args.names.now c.loop-j.j (pos 0)) fits)) c.base_of-base.ensures.value in
+    let e = left_here g.variables g.clauses c.args.side p c.args.names.now c.loop-j.j c.loop-j-test.true _ is (sym c.if-not-is_wanted.ensures) in
     (ap (λ l. take c.loop-j.count c.loop-j.set ++ l) (sym e) ∙ c.loop-j.invariant.0, omega (arith, c.loop-j.invariant.1), c.loop-j.invariant.2)
 
 pub loop-j-preserved : goal.loop-j-preserved
 loop-j-preserved c =
     let g = c.args.game.now in
-    let p : ℕ → Bool = λ i. wanted c.args.side (get_or c.mark-hits.new.marks i false) in
+    let p : ℕ → Bool = λ i. wanted c.args.side (get_or c.mark_hits.new.marks i false) in
     let fits : SFits w32 (get_or c.args.names.now c.loop-j.j (pos 0)) = search rules in
-    let is = clause_by g.variables g.clauses c.args.side (get_or c.args.names.now c.loop-j.j (pos 0)) c.magnitude.result c.base-of-base.result (c.magnitude.ensures ∙ ap nat_abs (to_z-of_z w32 (get_or c.args.names.now c.loop-j.j (pos 0)) fits)) c.base-of-base.ensures.value in
-    let e = taken_here g.variables g.clauses c.args.side p c.args.names.now c.loop-j.j c.loop-j-test.true _ is (sym c.if-not-is-wanted.ensures) in
+    let is = clause_by g.variables g.clauses c.args.side (get_or c.args.names.now c.loop-j.j (pos 0)) c.magnitude.result c.base_of-base.result (c.magnitude.ensures ∙ ap nat_abs (to_z-of_z w32 (get_or c.args.names.now c.loop-j.j (pos 0)) fits)) c.base_of-base.ensures.value in
+    let e = taken_here g.variables g.clauses c.args.side p c.args.names.now c.loop-j.j c.loop-j-test.true _ is (sym c.if-not-is_wanted.ensures) in
     let room : c.loop-j.count < length c.loop-j.set = omega (arith, c.loop-j.invariant.1, c.loop-j.invariant.2, c.requires.1.1.0) in
     (pushed c.loop-j.set c.loop-j.count _ _ _ _ _ room refl e c.loop-j.invariant.0, omega (arith, c.loop-j.invariant.1), length-set c.loop-j.set c.loop-j.count _ ∙ c.loop-j.invariant.2)
 
@@ -67,9 +67,9 @@ returns c =
     let C = clauses_of g c.args.pool.now in
     let x = values_in g.variables c.args.chosen.now in
     let A = clauses_named g.variables g.clauses c.args.side c.args.names.now in
-    let p : ℕ → Bool = λ i. wanted c.args.side (get_or c.mark-hits.new.marks i false) in
-    let marked : (i : ℕ) → get_or c.mark-hits.new.marks i false ≡ hits C x i =
-    λ i. c.mark-hits.ensures i ∙ ap (λ b. hits C x i || b) (nothing_before i) ∙ or_false (hits C x i) in
+    let p : ℕ → Bool = λ i. wanted c.args.side (get_or c.mark_hits.new.marks i false) in
+    let marked : (i : ℕ) → get_or c.mark_hits.new.marks i false ≡ hits C x i =
+    λ i. c.mark_hits.ensures i ∙ ap (λ b. hits C x i || b) (nothing_before i) ∙ or_false (hits C x i) in
     record {
       clauses = none_left _ _ _ (at_drop_all (λ l. keep p (each (clause_of g.variables g.clauses c.args.side) l)) c.args.names.now c.loop-j.j c.loop-j-test.false) c.loop-j.invariant.0
           ∙ keep_same p (λ i. wanted c.args.side (hits C x i)) A (λ i. ap (wanted c.args.side) (marked i))

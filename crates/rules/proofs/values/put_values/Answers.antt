@@ -22,9 +22,9 @@ loop-v-preserved c =
     let α : ℕ → Bool = λ u. get_or c.args.level.now.values u false in
     let p : ℕ → Bool = λ u. get_or c.args.level.now.variables u false in
     let v = c.loop-v.v in
-    let fits : SFits w32 c.literal-of.result = search rules in
+    let fits : SFits w32 c.literal_of.result = search rules in
     let room : c.loop-v.count < length c.loop-v.buffer = omega (arith, c.loop-v.invariant.1, c.loop-v.invariant.2, c.requires.0, c.requires.1) in (
-      pushed c.loop-v.buffer c.loop-v.count _ (literal_of v (α v)) _ _ _ room (to_z-of_z w32 c.literal-of.result fits ∙ c.literal-of.ensures)
+      pushed c.loop-v.buffer c.loop-v.count _ (literal_of v (α v)) _ _ _ room (to_z-of_z w32 c.literal_of.result fits ∙ c.literal_of.ensures)
           (ap (values_of α) (keep_here p v c.args.variables (omega arith) c.if-not-level-v.false)) c.loop-v.invariant.0,
       omega (arith, c.loop-v.invariant.1),
       length-set c.loop-v.buffer c.loop-v.count _ ∙ c.loop-v.invariant.2,

@@ -26,9 +26,9 @@ loop-v-preserved-then-not-flags-v c =
 pub loop-v-preserved : goal.loop-v-preserved
 loop-v-preserved c =
     let v = c.loop-v.v in
-    let r = c.is-positive.result in
+    let r = c.is_positive.result in
     let fits : SFits w32 (get_or c.args.words.now (c.loop-v.v - 1) (pos 0)) = search rules in
-    let is : r ≡ lt_z (pos 0) (get_or c.args.words.now (v - 1) (pos 0)) = c.is-positive.ensures ∙ ap (lt_z (pos 0)) (to_z-of_z w32 (get_or c.args.words.now (v - 1) (pos 0)) fits) in
+    let is : r ≡ lt_z (pos 0) (get_or c.args.words.now (v - 1) (pos 0)) = c.is_positive.ensures ∙ ap (lt_z (pos 0)) (to_z-of_z w32 (get_or c.args.words.now (v - 1) (pos 0)) fits) in
     let room : v < length c.loop-v.values = omega (arith, c.loop-v.invariant.3, c.requires.0) in
     let flagged : get_or c.args.flags.now v false ≡ true = c.if-not-flags-v.false in (
       (λ u low high. ⊎_elim

@@ -8,9 +8,9 @@ use Rattle.rules.proofs.values.read_values.Goals as goal
 pub loop-v-preserved : goal.loop-v-preserved
 loop-v-preserved c =
     let v = c.loop-v.v in
-    let r = c.is-positive.result in
+    let r = c.is_positive.result in
     let fits : SFits w32 (get_or c.args.words.now (c.loop-v.v - 1) (pos 0)) = search rules in
-    let is : r ≡ lt_z (pos 0) (get_or c.args.words.now (v - 1) (pos 0)) = c.is-positive.ensures ∙ ap (lt_z (pos 0)) (to_z-of_z w32 (get_or c.args.words.now (v - 1) (pos 0)) fits) in
+    let is : r ≡ lt_z (pos 0) (get_or c.args.words.now (v - 1) (pos 0)) = c.is_positive.ensures ∙ ap (lt_z (pos 0)) (to_z-of_z w32 (get_or c.args.words.now (v - 1) (pos 0)) fits) in
     let room : v < length c.loop-v.values = omega (arith, c.loop-v.invariant.1, c.requires.0) in (
       (λ u low high. ⊎_elim
           (λ k. get_or-set_other c.loop-v.values v u r false (λ e. omega arith) ∙ c.loop-v.invariant.0 u low k)

@@ -6,15 +6,15 @@ use Rattle.soundness.proofs.Forming.{signals_more, signals_sign, signals_low, si
 use Rattle.soundness.proofs.entries.are_signals.Goals as goal
 use Rattle.soundness.proofs.entries.are_signals.Goals.{then-not-is-signed-via-then-not-is-signed, then-not-is-signed-via-else-not-is-signed+then-signal-last, then-not-is-signed-via-else-not-is-signed+else-signal-last+then-signal-top}
 
-pub returns-then-not-is-signed : goal.returns-then-not-is-signed
-returns-then-not-is-signed c =
+pub returns-then-not-is_signed : goal.returns-then-not-is_signed
+returns-then-not-is_signed c =
     let xs = c.args.numbers.now in
     let i = c.loop-x.x-index in
     let fits : SFits w32 (get_or c.args.numbers.now c.loop-x.x-index (pos 0)) = search rules in
-    let is : c.unsigned-abs-signal.result ≡ nat_abs (get_or xs i (pos 0)) = simp to_z-of_z at c.unsigned-abs-signal.ensures.value in
+    let is : c.unsigned_abs-signal.result ≡ nat_abs (get_or xs i (pos 0)) = simp to_z-of_z at c.unsigned_abs-signal.ensures.value in
     let fails : are_signals c.args.side c.loop-x.last c.args.top (drop i xs) ≡ false =
-    elim c.then-not-is-signed.branch [
-      | then-not-is-signed-via-then-not-is-signed w ↦ signals_sign c.args.side c.loop-x.last c.args.top xs i c.loop-x-test.true (sym (simp to_z-of_z at w.if-not-is-signed.ensures))
+    elim c.then-not-is_signed.branch [
+      | then-not-is-signed-via-then-not-is-signed w ↦ signals_sign c.args.side c.loop-x.last c.args.top xs i c.loop-x-test.true (sym (simp to_z-of_z at w.if-not-is_signed.ensures))
       | then-not-is-signed-via-else-not-is-signed+then-signal-last w ↦ signals_low c.args.side c.loop-x.last c.args.top xs i c.loop-x-test.true (omega arith)
       | then-not-is-signed-via-else-not-is-signed+else-signal-last+then-signal-top w ↦ signals_high c.args.side c.loop-x.last c.args.top xs i c.loop-x-test.true (omega arith)
     ] in
@@ -25,9 +25,9 @@ loop-x-preserved c =
     let xs = c.args.numbers.now in
     let i = c.loop-x.x-index in
     let fits : SFits w32 (get_or c.args.numbers.now c.loop-x.x-index (pos 0)) = search rules in
-    let is : c.unsigned-abs-signal.result ≡ nat_abs (get_or xs i (pos 0)) = simp to_z-of_z at c.unsigned-abs-signal.ensures.value in
+    let is : c.unsigned_abs-signal.result ≡ nat_abs (get_or xs i (pos 0)) = simp to_z-of_z at c.unsigned_abs-signal.ensures.value in
     c.loop-x.invariant
-    ∙ signals_more c.args.side c.loop-x.last c.args.top xs i c.loop-x-test.true (sym (simp to_z-of_z at c.if-not-is-signed.ensures)) (omega arith) (omega arith)
+    ∙ signals_more c.args.side c.loop-x.last c.args.top xs i c.loop-x-test.true (sym (simp to_z-of_z at c.if-not-is_signed.ensures)) (omega arith) (omega arith)
     ∙ ap (λ l. are_signals c.args.side l c.args.top (drop (i + 1) xs)) (sym is)
 
 pub returns : goal.returns

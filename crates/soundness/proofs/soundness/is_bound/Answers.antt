@@ -10,7 +10,7 @@ use Rattle.soundness.proofs.soundness.is_bound.Goals.{then-v-eq0-via-then-v-eq0,
 pub returns-then-v-eq0 : goal.returns-then-v-eq0
 returns-then-v-eq0 c =
     let g = c.args.game.now in
-    let is : c.unsigned-abs-v.result ≡ nat_abs c.args.x = simp (to_z-of_z, c.ranges.x) at c.unsigned-abs-v.ensures.value in (
+    let is : c.unsigned_abs-v.result ≡ nat_abs c.args.x = simp (to_z-of_z, c.ranges.x) at c.unsigned_abs-v.ensures.value in (
       λ e. absurd (false≢true e),
       λ b. absurd (
           let at = bound_at (variables_at g) 0 g.depth (nat_abs c.args.x) b in
@@ -24,8 +24,8 @@ returns-then-v-eq0 c =
 pub returns-then-game-m : goal.returns-then-game-m
 returns-then-game-m c =
     let g = c.args.game.now in
-    let v = c.unsigned-abs-v.result in
-    let is : c.unsigned-abs-v.result ≡ nat_abs c.args.x = simp (to_z-of_z, c.ranges.x) at c.unsigned-abs-v.ensures.value in (
+    let v = c.unsigned_abs-v.result in
+    let is : c.unsigned_abs-v.result ≡ nat_abs c.args.x = simp (to_z-of_z, c.ranges.x) at c.unsigned_abs-v.ensures.value in (
       λ e. subst (Bound (levels_of g)) is (bound_found (variables_at g) 0 g.depth c.loop-m.m v (omega arith) (omega arith) (kept_found (binds_in g c.loop-m.m) g.variables v (omega arith) (omega arith) c.if-game-m.true)),
       λ b. refl,
     )
@@ -33,8 +33,8 @@ returns-then-game-m c =
 pub returns : goal.returns
 returns c =
     let g = c.args.game.now in
-    let v = c.unsigned-abs-v.result in
-    let is : c.unsigned-abs-v.result ≡ nat_abs c.args.x = simp (to_z-of_z, c.ranges.x) at c.unsigned-abs-v.ensures.value in (
+    let v = c.unsigned_abs-v.result in
+    let is : c.unsigned_abs-v.result ≡ nat_abs c.args.x = simp (to_z-of_z, c.ranges.x) at c.unsigned_abs-v.ensures.value in (
       λ e. absurd (false≢true e),
       λ b. absurd (
           let at = bound_at (variables_at g) 0 g.depth v (subst (Bound (levels_of g)) (sym is) b) in

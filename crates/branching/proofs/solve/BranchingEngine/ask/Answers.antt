@@ -10,8 +10,8 @@ use Rattle.branching.proofs.Models.{solved_same}
 use Rattle.branching.proofs.Uses.{part_used}
 use Rattle.branching.proofs.solve.BranchingEngine.ask.Goals as goal
 
-pub write-used-c-requires : goal.write-used-c-requires
-write-used-c-requires c =
+pub write_used-c-requires : goal.write_used-c-requires
+write_used-c-requires c =
     let q = asked c.args.question in
     let taken = c.in-ok-admit.ensures in
     let small = taken.small in
@@ -28,7 +28,7 @@ returns-else-solve c =
     let same : records_of c.new-chain.result ≡ clauses q = c.new-chain.ensures.records (c.new-chain.ensures.sound.1 taken.proper.sound) in
     let clash : Clash (clauses q) (used marks q.assumed) = subst (λ cs. Clash cs (used marks q.assumed)) same c.if-solve.ensures in
     record {
-      answered = (taken, (used marks q.assumed, sym c.write-used-c.ensures.count, part_used marks q.assumed, clash, c.write-used-c.ensures.words));
+      answered = (taken, (used marks q.assumed, sym c.write_used-c.ensures.count, part_used marks q.assumed, clash, c.write_used-c.ensures.words));
       first = tt;
     }
 
@@ -39,6 +39,6 @@ returns-then-solve c =
     let same : records_of c.new-chain.result ≡ clauses q = c.new-chain.ensures.records (c.new-chain.ensures.sound.1 taken.proper.sound) in
     let solved : Solved q.signals (clauses q) q.assumed c.solve.new.values c.solve.new.marks true =
     solved_same _ _ _ _ q.assumed c.solve.new.values c.solve.new.marks c.new-chain.ensures.signals same c.if-solve.ensures in
-    let written : c.copy-front.new.to ≡ values solved.0 q.signals ++ drop q.signals c.args.out.now =
-    c.copy-front.ensures ∙ ap (λ l. l ++ drop q.signals c.args.out.now) solved.2 in
+    let written : c.copy_front.new.to ≡ values solved.0 q.signals ++ drop q.signals c.args.out.now =
+    c.copy_front.ensures ∙ ap (λ l. l ++ drop q.signals c.args.out.now) solved.2 in
     record { answered = (taken, (solved.0, solved.1, written)); first = (solved.0, written, solved.3) }

@@ -17,8 +17,8 @@ returns-in-Some c =
     let least : Least q.signals (clauses q) q.assumed (Some c.in-Some.n) = least_same _ _ _ _ q.assumed (Some c.in-Some.n) c.new-chain.ensures.signals same c.in-Some.ensures in
     let a = numbered q.signals c.in-Some.n in
     record {
-      answered = (taken, (a, least.1, c.write-values.ensures));
-      first = (a, c.write-values.ensures, first_from_some q.signals (clauses q) q.assumed (clauses_literals q taken.proper) taken.proper.literals c.in-Some.n least);
+      answered = (taken, (a, least.1, c.write_values.ensures));
+      first = (a, c.write_values.ensures, first_from_some q.signals (clauses q) q.assumed (clauses_literals q taken.proper) taken.proper.literals c.in-Some.n least);
       named = tt;
     }
 
@@ -29,7 +29,7 @@ returns-in-None c =
     let same : records_of c.new-chain.result ≡ clauses q = c.new-chain.ensures.records (c.new-chain.ensures.sound.1 taken.proper.sound) in
     let least : Least q.signals (clauses q) q.assumed None = least_same _ _ _ _ q.assumed None c.new-chain.ensures.signals same c.in-None.ensures in
     let xs = q.assumed in
-    let written = c.copy-front.ensures ∙ ap (λ l. l ++ drop (length xs) c.args.out.now) (take_all (length xs) xs (omega arith)) in
+    let written = c.copy_front.ensures ∙ ap (λ l. l ++ drop (length xs) c.args.out.now) (take_all (length xs) xs (omega arith)) in
     record {
       answered = (taken, (xs, refl, part_same xs, clash_from_none q.signals (clauses q) xs (clauses_literals q taken.proper) taken.proper.literals least, written));
       first = tt;

@@ -5,13 +5,13 @@ use Rattle.formula.proofs.Arrays.{written}
 use Rattle.formula.proofs.Adds.{adding_ok, with_literal, built_literal}
 use Rattle.formula.proofs.draft.Draft.add_literal.Goals as goal
 
-pub invariant-of-self : goal.invariant-of-self
-invariant-of-self c =
+pub invariant_of-self : goal.invariant_of-self
+invariant_of-self c =
     let old = c.args.self.now in
     let p = old.parts in
     let l = to_z w32 (of_z w32 c.args.literal) in
     let inside : p.count < length p.literals = search rules in
-    let is : nat_abs l ≡ c.unsigned-abs-variable.result = sym c.unsigned-abs-variable.ensures.value in
+    let is : nat_abs l ≡ c.unsigned_abs-variable.result = sym c.unsigned_abs-variable.ensures.value in
     let here : 0 < get_or p.bound (nat_abs l) 0 = subst (λ v. 0 < get_or p.bound v 0) (sym is) (omega arith) in (
       (omega arith, omega arith, omega arith, omega arith),
       (
@@ -39,7 +39,7 @@ returns c =
     let fits : SFits w32 x = search rules in
     let same : to_z w32 (of_z w32 x) ≡ x = to_z-of_z w32 x fits in
     let inside : p.count < length p.literals = search rules in
-    let is : nat_abs x ≡ c.unsigned-abs-variable.result = ap nat_abs (sym same) ∙ sym c.unsigned-abs-variable.ensures.value in
+    let is : nat_abs x ≡ c.unsigned_abs-variable.result = ap nat_abs (sym same) ∙ sym c.unsigned_abs-variable.ensures.value in
     let few : leb 4096 p.count ≡ false = search rules in
     let ok = adding_ok x (built p) (omega arith) (λ e. c.if-self-variable-eq0.false (ap (λ v. get_or p.bound v 0) (sym is) ∙ e)) few in
     record {

@@ -2,8 +2,8 @@ use Rattle.std.proofs.Common.{◌≡◌, ℕ, ◌<◌, ◌≤◌, length, get_or
 use Rattle.formula.proofs.Arrays.{written, lower_level_same}
 use Rattle.formula.proofs.draft.Draft.bind.Goals as goal
 
-pub invariant-of-self : goal.invariant-of-self
-invariant-of-self c =
+pub invariant_of-self : goal.invariant_of-self
+invariant_of-self c =
     let old = c.args.self.now in
     let b = old.parts.bound in
     let m = old.parts.levels in

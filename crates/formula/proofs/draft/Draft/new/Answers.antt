@@ -2,8 +2,8 @@ use Rattle.std.proofs.Common.{ℕ, ◌<◌, ◌≤◌, [], refl, arith, lit≤}
 use Rattle.formula.proofs.Zeros.{zeros_le, zeros_none}
 use Rattle.formula.proofs.draft.Draft.new.Goals as goal
 
-pub invariant-of-result : goal.invariant-of-result
-invariant-of-result c = (
+pub invariant_of-result : goal.invariant_of-result
+invariant_of-result c = (
   (omega arith, lit≤ tt, lit≤ tt, lit≤ tt),
   (
     (λ i h. absurd (omega arith)),

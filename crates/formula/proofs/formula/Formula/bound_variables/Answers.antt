@@ -6,7 +6,7 @@ use Rattle.formula.proofs.formula.Formula.bound_variables.Goals as goal
 pub loop-level-preserved : goal.loop-level-preserved
 loop-level-preserved c =
     let p = c.args.self.now.parts in
-    let told = c.count-variables-total.ensures in (
+    let told = c.count_variables-total.ensures in (
       omega (arith, told.few, c.loop-level.invariant.0),
       omega (arith, told.count, bound_more (variables_of p.variables p.bound) c.loop-level.level p.levels c.loop-level.total _ (omega arith) c.loop-level.invariant.1),
     )

@@ -15,6 +15,6 @@ returns-then-level-lt1 c =
 pub returns : goal.returns
 returns c =
     let p = c.args.self.now.parts in
-    c.next-variable.ensures
+    c.next_variable.ensures
     ∙ next_in (binds_at p.bound c.args.level) p.variables c.args.after
     ∙ sym (ap (λ l. first_of (keep (ltb c.args.after) l)) (level_there (qbf p) (variables_of p.variables p.bound) p.levels refl c.args.level c.if-level-lt1.false c.if-level-self.false))

@@ -5,8 +5,8 @@ use Rattle.pool.proofs.Tested.{test_from_linked}
 use Rattle.pool.proofs.chain.Chain.new.Goals as goal
 use Rattle.pool.proofs.chain.Chain.new.Goals.{then-whole, else-whole}
 
-pub invariant-of-result : goal.invariant-of-result
-invariant-of-result c =
+pub invariant_of-result : goal.invariant_of-result
+invariant_of-result c =
     let pool = c.args.pool.now in (
       elim c.if-whole.branch [
         | then-whole w ↦

@@ -17,8 +17,8 @@ next-self-requires c =
     lies_at self.signals self.words.now (length self.words.now) (omega arith) self.at c.if-self-eq0.false
     (linked_from_test self.signals self.words.now (length self.words.now) self.at self.at self.sound)
 
-pub invariant-of-self : goal.invariant-of-self
-invariant-of-self c =
+pub invariant_of-self : goal.invariant_of-self
+invariant_of-self c =
     let self = c.args.self.now in
     let linked = linked_from_test self.signals self.words.now (length self.words.now) self.at self.at self.sound in
     let rest = rest_at self.signals self.words.now (length self.words.now) self.at c.if-self-eq0.false linked in

@@ -18,8 +18,8 @@ clashes-requires g c =
     let left = take c.loop-i.n c.loop-i.self.named in
     let fewer : Part (without left c.loop-i.i) (take c.args.count c.args.self.now.named) = part_trans (part_without left c.loop-i.i) c.loop-i.invariant.2 in
     let proper = proper_part q (without left c.loop-i.i) (take c.args.count c.args.self.now.named) c.requires.1.1.1.0 fewer in
-    let room : c.loop-i.n - 1 ≤ length c.leave-out.new.trial = search rules in
-    (c.requires.0, (omega arith, (room, rw c.leave-out.ensures proper)))
+    let room : c.loop-i.n - 1 ≤ length c.leave_out.new.trial = search rules in
+    (c.requires.0, (omega arith, (room, rw c.leave_out.ensures proper)))
 
 -- one is dropped
 pub loop-i-preserved-then-clashes : goal.loop-i-preserved-then-clashes
@@ -27,10 +27,10 @@ loop-i-preserved-then-clashes g c =
     let left = take c.loop-i.n c.loop-i.self.named in
     let q = clauses (asked c.args.question) in
     let less = c.loop-i.n - 1 in
-    let room : less ≤ length c.leave-out.new.trial = search rules in
-    let is : take less c.copy-front.new.to ≡ without left c.loop-i.i =
-    ap (take less) c.copy-front.ensures ∙ take_at (take less c.leave-out.new.trial) _ less (length-take-le less c.leave-out.new.trial room) ∙ c.leave-out.ensures in
-    let clash : Clash q (without left c.loop-i.i) = rw c.leave-out.ensures at (c.if-clashes.ensures.0 refl) in
+    let room : less ≤ length c.leave_out.new.trial = search rules in
+    let is : take less c.copy_front.new.to ≡ without left c.loop-i.i =
+    ap (take less) c.copy_front.ensures ∙ take_at (take less c.leave_out.new.trial) _ less (length-take-le less c.leave_out.new.trial room) ∙ c.leave_out.ensures in
+    let clash : Clash q (without left c.loop-i.i) = rw c.leave_out.ensures at (c.if-clashes.ensures.0 refl) in
     rw is (
       omega arith,
       omega arith,
@@ -48,7 +48,7 @@ loop-i-preserved g c =
     let left = take c.loop-i.n c.loop-i.self.named in
     let q = clauses (asked c.args.question) in
     let need' : Clash q (without left c.loop-i.i) → ⊥ =
-    λ clash. false≢true (c.if-clashes.ensures.1 (rw c.leave-out.ensures clash)) in (
+    λ clash. false≢true (c.if-clashes.ensures.1 (rw c.leave_out.ensures clash)) in (
       omega arith,
       c.loop-i.invariant.1,
       c.loop-i.invariant.2,
