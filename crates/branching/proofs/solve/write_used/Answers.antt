@@ -6,7 +6,7 @@ use Rattle.pool.specs.Records.{Literal}
 use Rattle.branching.specs.Search.{used}
 use Rattle.branching.proofs.Uses.{used_skip, used_take, push_word}
 use Rattle.branching.proofs.solve.write_used.Goals as goal
-use Rattle.branching.proofs.solve.write_used.Goals.{then-marks-place-of, else-marks-place-of}
+use Rattle.branching.proofs.solve.write_used.Goals.{then-marks-place_of, else-marks-place_of}
 
 pub place_of-requires : goal.place_of-requires
 place_of-requires c =
@@ -34,7 +34,7 @@ loop-x-preserved c =
     let place : c.place_of.result ≡ nat_abs x - 1 = simp to_z-of_z at c.place_of.ensures in
     let inv = c.loop-x.invariant in
     elim c.if-marks-place_of.branch [
-      | then-marks-place-of w ↦
+      | then-marks-place_of w ↦
           let m : get_or marks (nat_abs x - 1) false ≡ true = ap (λ j. get_or marks j false) (sym place) ∙ w.if-marks-place_of.true in
           let more = used_take marks xs i c.loop-x-test.true m in
           let push = length_push (used marks (take i xs)) x in
@@ -44,7 +44,7 @@ loop-x-preserved c =
           let out' : c.if-marks-place_of.out ≡ set c.loop-x.out n x = w.out-is ∙ ap (set c.loop-x.out n) (to_z-of_z w32 x fits) in
           let word = push_word (used marks (take i xs)) c.args.out.now c.loop-x.out x n (sym inv.0) (omega arith) inv.2 in
           (omega arith, omega arith, out' ∙ word ∙ ap (λ l. l ++ drop (n + 1) c.args.out.now) (sym more) ∙ ap (λ k. used marks (take (i + 1) xs) ++ drop k c.args.out.now) (sym n'))
-      | else-marks-place-of w ↦
+      | else-marks-place_of w ↦
           let m : get_or marks (nat_abs x - 1) false ≡ false = ap (λ j. get_or marks j false) (sym place) ∙ w.if-marks-place_of.false in
           let same = used_skip marks xs i c.loop-x-test.true m in
           let long = ap length same in

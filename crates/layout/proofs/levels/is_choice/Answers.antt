@@ -5,7 +5,7 @@ use Rattle.formula.specs.Backward.{is_choice}
 use Rattle.layout.specs.Shown.{binds_in}
 use Rattle.layout.proofs.Choosing.{choice_past, choice_more, choice_other, choice_short, choice_end}
 use Rattle.layout.proofs.levels.is_choice.Goals as goal
-use Rattle.layout.proofs.levels.is_choice.Goals.{then-at-numbers-via-then-at-numbers, then-at-numbers-via-else-at-numbers+then-not-is-literal}
+use Rattle.layout.proofs.levels.is_choice.Goals.{then-at-numbers-via-then-at-numbers, then-at-numbers-via-else-at-numbers+then-not-is_literal}
 
 pub loop-v-preserved-then-not-game-m : goal.loop-v-preserved-then-not-game-m
 loop-v-preserved-then-not-game-m c =
@@ -31,7 +31,7 @@ returns-then-at-numbers c =
     let fails : is_choice (drop c.loop-v.at xs) (keep (binds_in g c.args.m) (from c.loop-v.v (g.variables + 1 - c.loop-v.v))) ≡ false =
     elim c.then-at-numbers.branch [
       | then-at-numbers-via-then-at-numbers w ↦ choice_short (binds_in g c.args.m) g.variables c.loop-v.v xs c.loop-v.at h c.if-not-game-m.false (omega arith)
-      | then-at-numbers-via-else-at-numbers+then-not-is-literal w ↦
+      | then-at-numbers-via-else-at-numbers+then-not-is_literal w ↦
           let in' : c.loop-v.at < length c.args.numbers.now = omega arith in
           let fits : SFits w32 (get_or c.args.numbers.now c.loop-v.at (pos 0)) = search rules in
           let is : eqb (nat_abs (get_or xs c.loop-v.at (pos 0))) c.loop-v.v ≡ false = sym (simp to_z-of_z at w.if-not-is_literal.ensures) in

@@ -4,7 +4,7 @@ use Rattle.std.proofs.ByRecursion.{All-more, All-get_or}
 use Rattle.std.proofs.lemmas.Int.{to_z-of_z, ints}
 use Rattle.pool.specs.Records.{Literal}
 use Rattle.pool.proofs.soundness.are_literals.Goals as goal
-use Rattle.pool.proofs.soundness.are_literals.Goals.{then-x-eq0-via-then-x-eq0, then-x-eq0-via-else-x-eq0+then-unsigned-abs-s}
+use Rattle.pool.proofs.soundness.are_literals.Goals.{then-x-eq0-via-then-x-eq0, then-x-eq0-via-else-x-eq0+then-unsigned_abs-s}
 
 pub loop-x-preserved : goal.loop-x-preserved
 loop-x-preserved c =
@@ -24,7 +24,7 @@ returns-then-x-eq0 c =
       (λ all. let h = at all in
           elim c.then-x-eq0.branch [
             | then-x-eq0-via-then-x-eq0 w ↦ grind (arith, ints)
-            | then-x-eq0-via-else-x-eq0+then-unsigned-abs-s w ↦
+            | then-x-eq0-via-else-x-eq0+then-unsigned_abs-s w ↦
                 let is : w.unsigned_abs.result ≡ nat_abs x = simp to_z-of_z at w.unsigned_abs.ensures.value in
                 absurd (omega arith)
           ]),

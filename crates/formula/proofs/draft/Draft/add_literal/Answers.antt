@@ -12,25 +12,15 @@ invariant_of-self c =
     let l = to_z w32 (of_z w32 c.args.literal) in
     let inside : p.count < length p.literals = search rules in
     let is : nat_abs l ≡ c.unsigned_abs-variable.result = sym c.unsigned_abs-variable.ensures.value in
-    let here : 0 < get_or p.bound (nat_abs l) 0 = subst (λ v. 0 < get_or p.bound v 0) (sym is) (omega arith) in (
-      (omega arith, omega arith, omega arith, omega arith),
-      (
-        old.ordered,
-        (
-          (old.ends.0, omega (arith, old.ends.1)),
-          (
-            old.declared,
-            (
-              old.leveled,
-              (
-                (λ j h. written (λ u x. u < p.count + 1 → 0 < get_or p.bound (nat_abs x) 0) p.literals p.count l (pos 0) inside (λ _. here) (λ u n k. old.closed u (omega arith)) j h),
-                (old.filled, tt),
-              ),
-            ),
-          ),
-        ),
-      ),
-    )
+    let here : 0 < get_or p.bound (nat_abs l) 0 = subst (λ v. 0 < get_or p.bound v 0) (sym is) (omega arith) in record {
+      limits = (omega arith, omega arith, omega arith, omega arith);
+      ordered = old.ordered;
+      ends = (old.ends.0, omega (arith, old.ends.1));
+      declared = old.declared;
+      leveled = old.leveled;
+      closed = λ j h. written (λ u x. u < p.count + 1 → 0 < get_or p.bound (nat_abs x) 0) p.literals p.count l (pos 0) inside (λ _. here) (λ u n k. old.closed u (omega arith)) j h;
+      filled = old.filled;
+    }
 
 pub returns : goal.returns
 returns c =

@@ -22,7 +22,7 @@ invariant_of-self c =
     let self = c.args.self.now in
     let linked = linked_from_test self.signals self.words.now (length self.words.now) self.at self.at self.sound in
     let rest = rest_at self.signals self.words.now (length self.words.now) self.at c.if-self-eq0.false linked in
-    (rw c.next-self.ensures (test_from_linked self.signals self.words.now (length self.words.now) (next_at self.words.now self.at) (next_at self.words.now self.at) rest), tt)
+    record { sound = rw c.next-self.ensures (test_from_linked self.signals self.words.now (length self.words.now) (next_at self.words.now self.at) (next_at self.words.now self.at) rest) }
 
 pub returns : goal.returns
 returns c =

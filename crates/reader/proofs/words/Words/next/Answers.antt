@@ -6,7 +6,7 @@ use Rattle.reader.specs.Bytes.{lower, number_of}
 use Rattle.reader.specs.Words.{Word, first, rest, by_number, left_at, number, end}
 use Rattle.reader.proofs.Splits.{Cut, skips, at_end_lem, none_left, one_left}
 use Rattle.reader.proofs.words.Words.next.Goals as goal
-use Rattle.reader.proofs.words.Words.next.Goals.{After-word-end-to, In-Some, In-None, else-word-eq1-via-then-word-eq1+else-is-lower, else-word-eq1-via-else-word-eq1}
+use Rattle.reader.proofs.words.Words.next.Goals.{After-word-end-to, In-Some, In-None, else-word-eq1-via-then-word-eq1+else-is_lower, else-word-eq1-via-else-word-eq1}
 
 cut : (c : After-word-end-to) → Cut c.args.self.now.text.now c.args.self.now.at c.skip-from.result c.word_end-to.result
 cut c = record {
@@ -58,7 +58,7 @@ returns-in-Some c =
     let apart = c.if-from-to.false in
     let w = one a apart in
     let fits : SFits w32 c.in-Some.z = search rules in
-    let plain : (eqb (length (word a)) 1 && lower (get_or (word a) 0 0)) ≡ false = elim c.else-word-eq1.branch [ else-word-eq1-via-then-word-eq1+else-is-lower v ↦ and_right _ _ (sym v.if-is_lower.ensures) | else-word-eq1-via-else-word-eq1 v ↦ and_left _ _ (ne_eqb _ _ v.if-word-eq1.false) ] in
+    let plain : (eqb (length (word a)) 1 && lower (get_or (word a) 0 0)) ≡ false = elim c.else-word-eq1.branch [ else-word-eq1-via-then-word-eq1+else-is_lower v ↦ and_right _ _ (sym v.if-is_lower.ensures) | else-word-eq1-via-else-word-eq1 v ↦ and_left _ _ (ne_eqb _ _ v.if-word-eq1.false) ] in
     record {
       said = ap (λ z. number z (word a) c.skip-from.result) (to_z-of_z w32 _ fits) ∙ sym (ap (first _) w ∙ cond-false _ _ _ plain ∙ ap (λ o. by_number o (record { bytes = word a; place = c.skip-from.result })) (sym c.in-Some.ensures));
       left = sym (ap rest w);
@@ -71,7 +71,7 @@ returns-in-None c =
     let a = (goal.at.returns-in-None c).After-word-end-to in
     let apart = c.if-from-to.false in
     let w = one a apart in
-    let plain : (eqb (length (word a)) 1 && lower (get_or (word a) 0 0)) ≡ false = elim c.else-word-eq1.branch [ else-word-eq1-via-then-word-eq1+else-is-lower v ↦ and_right _ _ (sym v.if-is_lower.ensures) | else-word-eq1-via-else-word-eq1 v ↦ and_left _ _ (ne_eqb _ _ v.if-word-eq1.false) ] in
+    let plain : (eqb (length (word a)) 1 && lower (get_or (word a) 0 0)) ≡ false = elim c.else-word-eq1.branch [ else-word-eq1-via-then-word-eq1+else-is_lower v ↦ and_right _ _ (sym v.if-is_lower.ensures) | else-word-eq1-via-else-word-eq1 v ↦ and_left _ _ (ne_eqb _ _ v.if-word-eq1.false) ] in
     record {
       said = sym (ap (first _) w ∙ cond-false _ _ _ plain ∙ ap (λ o. by_number o (record { bytes = word a; place = c.skip-from.result })) (sym c.in-None.ensures));
       left = sym (ap rest w);
