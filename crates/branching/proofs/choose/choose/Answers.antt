@@ -26,11 +26,11 @@ returns-then-low-values c =
     let row = c.args.values.now in
     ⊎_elim
     (λ (e : c.loop-numbers.low ≡ length row). absurd (omega arith))
-    (λ o. (o.0, o.1, (c.loop-numbers.invariant.2 c.loop-numbers.low (omega arith) (subst (All (From row c.loop-numbers.low)) (sym c.in-default.ensures.records) tt)), o.2))
+    (λ o. (o.0, o.1, (c.loop-numbers.invariant.2 c.loop-numbers.low (omega arith) (subst (All (From row c.loop-numbers.low)) (sym c.in_default.ensures.records) tt)), o.2))
     c.loop-numbers.invariant.1
 
 pub returns-else-low-values : goal.returns-else-low-values
 returns-else-low-values c =
     let row = c.args.values.now in
     all_holding row c.loop-numbers.low (records_of c.args.chain) (omega arith) c.requires.1
-    (c.loop-numbers.invariant.2 c.loop-numbers.low (omega arith) (subst (All (From row c.loop-numbers.low)) (sym c.in-default.ensures.records) tt))
+    (c.loop-numbers.invariant.2 c.loop-numbers.low (omega arith) (subst (All (From row c.loop-numbers.low)) (sym c.in_default.ensures.records) tt))

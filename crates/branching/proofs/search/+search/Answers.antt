@@ -9,10 +9,10 @@ use Rattle.branching.proofs.Choosing.{met_completed}
 use Rattle.branching.proofs.Branches.{fork_from, front_again, branch_below, branch_room, branch_ready, branch_met_false, branch_met_true, branch_skip, branch_both, branch_traced, branch_stuck, reopened}
 use Rattle.branching.proofs.search.+search.Goals as goal
 
-pub returns-in-default-choose : goal.returns-in-default-choose
-returns-in-default-choose t c =
+pub returns-in_default-choose : goal.returns-in_default-choose
+returns-in_default-choose t c =
     let grown = c.in-Some.ensures.0 in
-    met_completed c.propagate.new.values c.complete.new.values c.complete.auto.values c.complete.ensures (records_of c.args.chain) c.args.values.now c.args.trail.now c.args.mark c.propagate.new.trail c.in-Some.top grown c.in-default-choose.ensures
+    met_completed c.propagate.new.values c.complete.new.values c.complete.auto.values c.complete.ensures (records_of c.args.chain) c.args.values.now c.args.trail.now c.args.mark c.propagate.new.trail c.in-Some.top grown c.in_default-choose.ensures
 
 pub decide-requires : goal.decide-requires
 decide-requires t c =

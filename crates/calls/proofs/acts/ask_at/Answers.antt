@@ -6,9 +6,9 @@ use Rattle.calls.proofs.acts.ask_at.Goals as goal
 
 pub returns : goal.returns
 returns g c =
-    let made = c.in-ok-words.ensures.0 in
+    let made = c.in_ok-words.ensures.0 in
     let out = c.ask-answer.new.out in
-    let long : length out ≡ c.in-ok-words.words.len = c.ask-answer.auto.out ∙ c.as_mut_slice.ensures.len in
+    let long : length out ≡ c.in_ok-words.words.len = c.ask-answer.auto.out ∙ c.as_mut_slice.ensures.len in
     let blank = c.as_mut_slice.ensures.value ∙ made in
-    subst (λ ws. Answered g.E.Engine.most (asked c.args.question) (replicate c.args.room (pos 0)) ws c.ask-answer.result) (sym (take_at out (drop (length out) c.in-ok-words.words.items) c.in-ok-words.words.len long))
+    subst (λ ws. Answered g.E.Engine.most (asked c.args.question) (replicate c.args.room (pos 0)) ws c.ask-answer.result) (sym (take_at out (drop (length out) c.in_ok-words.words.items) c.in_ok-words.words.len long))
     (subst (λ old. Answered g.E.Engine.most (asked c.args.question) old out c.ask-answer.result) blank c.ask-answer.ensures)

@@ -5,9 +5,9 @@ use Rattle.calls.specs.Places.{Place, place_with}
 use Rattle.calls.specs.Happening.{Happens, retires, retires_without, taken, verdict_retired}
 use Rattle.calls.proofs.acts.retire_at.Goals as goal
 
-pub returns-in-default : goal.returns-in-default
-returns-in-default c most =
-    let none = sym c.take.ensures.value ∙ c.in-default.is in
+pub returns-in_default : goal.returns-in_default
+returns-in_default c most =
+    let none = sym c.take.ensures.value ∙ c.in_default.is in
     subst (λ v. Happens most retireAct (place_with c.args.table.now c.args.pool.now c.args.verdict.now) no_verdict (place_with c.args.table.now c.args.pool.now v)) (none ∙ sym c.take.ensures.after) (retires_without none)
 
 pub returns-in-Ok : goal.returns-in-Ok

@@ -20,9 +20,9 @@ pub loop-call-preserved : goal.loop-call-preserved
 loop-call-preserved g c =
     let calls = c.args.calls.now in
     let i = c.loop-call.call-index in
-    let o = c.in-ok-outcome.outcome in
+    let o = c.in_ok-outcome.outcome in
     let xs = vec_items c.loop-call.outcomes in
-    let pushed = c.in-ok-push.ensures in
+    let pushed = c.in_ok-push.ensures in
     let count = c.loop-call.invariant.0 in
     let long : length (map told_by xs) ≡ i = length-map xs told_by ∙ omega (arith, c.loop-call.outcomes.ok.0, count) in
     let is : events_of (take (i + 1) calls) (map told_by (vec_items c.push.new.self)) ≡ events_of (take i calls) (map told_by xs) ++ (event_of (get_or calls i no_call) (told_by o) ∷ []) =
@@ -31,7 +31,7 @@ loop-call-preserved g c =
     let after = map place_of (vec_items c.perform.new.seats) in (
       omega (arith, pushed.len, count),
       subst (λ es. Continues es before after) (sym is)
-          (continues_more (events_of (take i calls) (map told_by xs)) (event_of (get_or calls i no_call) (told_by o)) before (map place_of (vec_items c.loop-call.seats)) after c.loop-call.invariant.1 c.in-ok-outcome.ensures),
+          (continues_more (events_of (take i calls) (map told_by xs)) (event_of (get_or calls i no_call) (told_by o)) before (map place_of (vec_items c.loop-call.seats)) after c.loop-call.invariant.1 c.in_ok-outcome.ensures),
     )
 
 pub returns : goal.returns

@@ -81,7 +81,7 @@ returns-in-assignments c =
     least_same c.signals-s.result (signals_of c.args.chain) (records_of c.args.chain) (records_of c.args.chain) c.args.assumptions.now (Some c.assignments.n) c.signals-s.ensures refl (
       below,
       (
-        c.records.invariant.1 ∙ ap (chain a) c.in-default.ensures.records,
+        c.records.invariant.1 ∙ ap (chain a) c.in_default.ensures.records,
         each_all a c.args.assumptions.now c.loop-x.x-index c.loop-x.invariant c.loop-x-test.false,
       ),
       c.assignments.invariant,

@@ -4,13 +4,13 @@ use Rattle.plan.proofs.Moving.{level_there, move_found}
 use Rattle.game.proofs.moves.next_move.Goals as goal
 
 pub write-requires : goal.write-requires
-write-requires c = let taken = c.in-ok-admit.ensures in omega (arith, taken.room, c.in-Some.ensures.count)
+write-requires c = let taken = c.in_ok-admit.ensures in omega (arith, taken.room, c.in-Some.ensures.count)
 
 pub returns-in-Some : goal.returns-in-Some
 returns-in-Some c =
     let g = c.args.table.now.game in
     let w = c.args.verdict.now.side in
-    let taken = c.in-ok-admit.ensures in
+    let taken = c.in_ok-admit.ensures in
     let there = level_there g w c.args.level taken.level in
     let entries = (taken.sound.levels (c.args.level - 1) (omega (arith, there.0, there.1))).entries in
     let found = move_found g c.args.pool.now w c.args.level c.args.play.now c.satisfied-satisfied.result entries there.2 c.satisfied-satisfied.ensures in
@@ -21,7 +21,7 @@ pub returns-in-None : goal.returns-in-None
 returns-in-None c =
     let g = c.args.table.now.game in
     let w = c.args.verdict.now.side in
-    let taken = c.in-ok-admit.ensures in
+    let taken = c.in_ok-admit.ensures in
     let there = level_there g w c.args.level taken.level in
     let entries = (taken.sound.levels (c.args.level - 1) (omega (arith, there.0, there.1))).entries in
     let found = move_found g c.args.pool.now w c.args.level c.args.play.now c.satisfied-satisfied.result entries there.2 c.satisfied-satisfied.ensures in

@@ -17,9 +17,9 @@ use Rattle.game.proofs.opening.open.Goals as goal
 
 pub returns-then-pool-words_needed : goal.returns-then-pool-words_needed
 returns-then-pool-words_needed c =
-    let q = qbf c.in-ok-formula.formula.parts in
+    let q = qbf c.in_ok-formula.formula.parts in
     let size = length c.args.pool.now in
-    let e = too_short size q (reads c.args.text.now) (omega arith) c.in-ok-formula.ensures.result (omega (arith, c.words_needed.ensures)) in
+    let e = too_short size q (reads c.args.text.now) (omega arith) c.in_ok-formula.ensures.result (omega (arith, c.words_needed.ensures)) in
     record {
       gives = sym (ap open_gives e);
       words = sym (ap (pool_after c.args.pool.now) e);
@@ -31,17 +31,17 @@ returns-then-pool-words_needed c =
 
 pub invariant_of-table : goal.invariant_of-table
 invariant_of-table c =
-    let q = qbf c.in-ok-formula.formula.parts in
-    let p = proper c.in-ok-formula.formula in
+    let q = qbf c.in_ok-formula.formula.parts in
+    let p = proper c.in_ok-formula.formula in
     let limits : Limits (opened_game q c.args.number c.args.pool.now) = (p.few_variables, p.few_clauses, p.few_levels, omega arith) in
     let filled : Filled (opened_game q c.args.number c.args.pool.now) = (chains_some (unused c.args.pool.now) (open_chains q) (omega arith), omega arith, length_put 0 (new_levels q.clauses q.variables (laid (unused c.args.pool.now) q.clauses) q.first q.levels) (replicate 32 blank)) in
     (subst Limits (sym c.write_game.ensures.game) limits, (subst Filled (sym c.write_game.ensures.game) filled, tt))
 
 pub returns : goal.returns
 returns c =
-    let q = qbf c.in-ok-formula.formula.parts in
+    let q = qbf c.in_ok-formula.formula.parts in
     let size = length c.args.pool.now in
-    let e = long_enough size q (reads c.args.text.now) (omega arith) c.in-ok-formula.ensures.result (omega (arith, c.words_needed.ensures)) in
+    let e = long_enough size q (reads c.args.text.now) (omega arith) c.in_ok-formula.ensures.result (omega (arith, c.words_needed.ensures)) in
     record {
       gives = sym (ap open_gives e);
       words = c.write_game.ensures.words ∙ sym (ap (pool_after c.args.pool.now) e);
@@ -51,9 +51,9 @@ returns c =
           subst (λ p. Begun p c.write_game.result c.write_game.new.pool) (same_ok _ q q' e is)
           (subst (λ g. Begun q g c.write_game.new.pool) (sym c.write_game.ensures.game)
           (subst (Begun q (opened_game q c.args.number c.args.pool.now)) (sym c.write_game.ensures.words)
-          (begins-so q c.args.number c.args.pool.now (proper c.in-ok-formula.formula) (omega (arith, c.words_needed.ensures)) (omega arith))));
+          (begins-so q c.args.number c.args.pool.now (proper c.in_ok-formula.formula) (omega (arith, c.words_needed.ensures)) (omega arith))));
       sound = λ _ _.
           subst (λ g. SoundPool g c.write_game.new.pool) (sym c.write_game.ensures.game)
           (subst (SoundPool (opened_game q c.args.number c.args.pool.now)) (sym c.write_game.ensures.words)
-          (open_sound q c.args.number c.args.pool.now (proper c.in-ok-formula.formula) (omega (arith, c.words_needed.ensures)) (omega arith)));
+          (open_sound q c.args.number c.args.pool.now (proper c.in_ok-formula.formula) (omega (arith, c.words_needed.ensures)) (omega arith)));
     }

@@ -9,8 +9,8 @@ use Rattle.layout.proofs.Keeping.{kept_turn, left_turn, kept_end}
 use Rattle.layout.proofs.Room.{clause_next}
 use Rattle.layout.proofs.chains.literals_on.Goals as goal
 
-pub overflow-add-clause : goal.overflow-add-clause
-overflow-add-clause c = let few = (proper c.args.formula.now).few_clauses in omega arith
+pub overflow_add-clause : goal.overflow_add-clause
+overflow_add-clause c = let few = (proper c.args.formula.now).few_clauses in omega arith
 
 pub bounds-buffer-count : goal.bounds-buffer-count
 bounds-buffer-count c =

@@ -15,8 +15,8 @@ use Rattle.layout.proofs.Keeping.{made_here, made_past}
 use Rattle.layout.proofs.Room.{clause_next, room_for, room_after, laid_after}
 use Rattle.layout.proofs.chains.write_device.Goals as goal
 
-pub overflow-add-clause : goal.overflow-add-clause
-overflow-add-clause c = let few = (proper c.args.formula.now).few_clauses in omega arith
+pub overflow_add-clause : goal.overflow_add-clause
+overflow_add-clause c = let few = (proper c.args.formula.now).few_clauses in omega arith
 
 pub loop-l-preserved-then-not-is_at : goal.loop-l-preserved-then-not-is_at
 loop-l-preserved-then-not-is_at c =

@@ -6,8 +6,8 @@ use Rattle.plan.specs.Fitting.{set_of, wants}
 use Rattle.plan.proofs.Entered.{signals_range, all_more, all_fails}
 use Rattle.plan.proofs.fitting.fits.Goals as goal
 
-pub overflow-sub-clause : goal.overflow-sub-clause
-overflow-sub-clause c =
+pub overflow_sub-clause : goal.overflow_sub-clause
+overflow_sub-clause c =
     let g = c.args.game.now in
     let fits : SFits w32 (get_or c.args.signals.now c.loop-x.x-index (pos 0)) = search rules in
     let is : c.unsigned_abs.result ≡ nat_abs (get_or c.args.signals.now c.loop-x.x-index (pos 0)) = simp to_z-of_z at c.unsigned_abs.ensures.value in

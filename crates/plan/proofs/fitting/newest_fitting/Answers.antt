@@ -8,8 +8,8 @@ use Rattle.layout.proofs.ProperRows.{row_proper}
 use Rattle.plan.proofs.Entered.{first_form, rest_forms, find_here, find_next}
 use Rattle.plan.proofs.fitting.newest_fitting.Goals as goal
 
-pub overflow-sub-entry : goal.overflow-sub-entry
-overflow-sub-entry c =
+pub overflow_sub-entry : goal.overflow_sub-entry
+overflow_sub-entry c =
     let g = c.args.game.now in
     let n = g.variables in
     let σ = (level_of g c.args.m).side in

@@ -4,10 +4,10 @@ use Rattle.layout.specs.Shown.{variables_at, levels_of}
 use Rattle.plan.proofs.Playing.{play_short, play_more, play_breaks, play_end}
 use Rattle.plan.proofs.plays.is_play.Goals as goal
 
-pub returns-in-default : goal.returns-in-default
-returns-in-default c =
+pub returns-in_default : goal.returns-in_default
+returns-in_default c =
     let g = c.args.game.now in
-    let few : length c.loop-m.rest.now < length (variables_at g c.loop-m.m) = omega (arith, c.in-default.ensures.cases, c.count_variables.ensures.count) in
+    let few : length c.loop-m.rest.now < length (variables_at g c.loop-m.m) = omega (arith, c.in_default.ensures.cases, c.count_variables.ensures.count) in
     sym (c.loop-m.invariant ∙ play_short (variables_at g) g.depth c.args.levels c.loop-m.m c.requires.1 c.loop-m-test.true c.loop-m.rest.now few)
 
 pub returns-then-not-is_choice : goal.returns-then-not-is_choice

@@ -45,4 +45,4 @@ returns c =
     let game = c.args.game.now in
     let pool = c.args.pool.now in
     let P : List ℤ → Type 0 = RecordCheck (clauses_of game pool) game.variables c.args.side (variables_at game c.args.m) (shown_from game pool (c.args.m + 1)) in
-    (λ _. all_done P _ _ c.loop-numbers.invariant.0 c.in-default.ensures.records, λ _. refl)
+    (λ _. all_done P _ _ c.loop-numbers.invariant.0 c.in_default.ensures.records, λ _. refl)

@@ -53,4 +53,4 @@ returns g c =
     let game = c.args.game.now in
     let pool = c.args.pool.now in
     let P : Entry → Type 0 = EntryCheck (clauses_of game pool) game.variables c.args.side (shown_from game pool (c.args.m + 1)) in
-    (λ _. all_done P _ _ c.loop-entry.invariant.0 (ap (each (entry_of game.variables)) c.in-default.ensures.records), λ _. refl)
+    (λ _. all_done P _ _ c.loop-entry.invariant.0 (ap (each (entry_of game.variables)) c.in_default.ensures.records), λ _. refl)

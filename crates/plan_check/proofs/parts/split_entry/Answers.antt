@@ -9,8 +9,8 @@ use Rattle.layout.proofs.ProperRows.{row_proper}
 use Rattle.plan.proofs.Entered.{entry_split, signals_range}
 use Rattle.plan_check.proofs.parts.split_entry.Goals as goal
 
-pub overflow-sub-entry : goal.overflow-sub-entry
-overflow-sub-entry c =
+pub overflow_sub-entry : goal.overflow_sub-entry
+overflow_sub-entry c =
     let g = c.args.game.now in
     let long = form_long g.variables g.clauses (level_of g c.args.m).side (variables_at g c.args.m) c.args.entry.now c.requires.1.1 in
     omega (arith, c.count_variables.ensures.count)

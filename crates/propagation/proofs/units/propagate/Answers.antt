@@ -56,8 +56,8 @@ assign-requires c =
     let room = c.requires.room in
     simp to_z-of_z ((low, high), omega arith)
 
-pub overflow-add-top : goal.overflow-add-top
-overflow-add-top c =
+pub overflow_add-top : goal.overflow_add-top
+overflow_add-top c =
     let forced = c.in-Forces.ensures in
     let low = forced.named.0 in
     let high = forced.named.1 in
@@ -132,7 +132,7 @@ records-preserved c =
 pub returns-then-top-before : goal.returns-then-top-before
 returns-then-top-before c = (
   c.records.invariant.0 _ _ c.rounds.invariant,
-  c.records.invariant.4 c.if-top-before.true (subst (All (Alive c.records.values)) (sym c.in-default.ensures.records) tt),
+  c.records.invariant.4 c.if-top-before.true (subst (All (Alive c.records.values)) (sym c.in_default.ensures.records) tt),
 )
 
 pub rounds-smaller : goal.rounds-smaller

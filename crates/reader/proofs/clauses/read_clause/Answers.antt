@@ -18,15 +18,15 @@ returns-then-numeral-eq0 c =
     let yes : c.end_clause.result ≡ true = c.end_clause.ensures.ended ∙ lt-ltb _ _ room in
     let done : drawn c.end_clause.new.self ≡ closed old = c.end_clause.ensures.after ∙ ap (λ r. cond r (closed old) old) yes in
     let same : size c.loop-numeral.words ≡ n = c.loop-numeral.invariant.0 in
-    let zero : nat_abs c.in-ok-numeral.numeral.value ≡ 0 = search rules in
+    let zero : nat_abs c.in_ok-numeral.numeral.value ≡ 0 = search rules in
     record {
       size = ap length c.next.ensures.text ∙ same;
       more = λ _. ap (λ b. length b.clauses) done ∙ length_push old.clauses old.pending ∙ ap (λ l. length l + 1) kept;
       reads = λ m k.
           c.loop-numeral.invariant.2 m k
-          ∙ clause_ends k n m old (left c.loop-numeral.words) (left c.next.new.self) (said c.next.result) c.in-ok-numeral.numeral.value
+          ∙ clause_ends k n m old (left c.loop-numeral.words) (left c.next.new.self) (said c.next.result) c.in_ok-numeral.numeral.value
           (c.next.ensures.said ∙ ap (λ j. first j (left c.loop-numeral.words)) same)
           (ap (λ t. left_at t c.next.new.self.at) c.next.ensures.text ∙ c.next.ensures.left)
-          c.in-ok-numeral.ensures.0 zero
+          c.in_ok-numeral.ensures.0 zero
           ∙ ap (λ b. reading k n (clauses m) b (left c.next.new.self)) (sym done);
     }

@@ -11,7 +11,7 @@ returns c =
     let is : formula_in c.read_words.result ≡ reads c.args.text.now = search rules in
     record { result = is; writes = written_or_not c.args.text.now c.read_words.result is }
 
-pub returns-then-text-gt-MAX-TEXT : goal.returns-then-text-gt-MAX-TEXT
-returns-then-text-gt-MAX-TEXT c =
+pub returns-then-text-gt-MAX_TEXT : goal.returns-then-text-gt-MAX_TEXT
+returns-then-text-gt-MAX_TEXT c =
     let is : formula_in (Err (Word TooLong)) ≡ reads c.args.text.now = search rules in
     record { result = is; writes = written_or_not c.args.text.now (Err (Word TooLong)) is }

@@ -13,7 +13,7 @@ use Rattle.branching.proofs.solve.BranchingEngine.ask.Goals as goal
 pub write_used-c-requires : goal.write_used-c-requires
 write_used-c-requires c =
     let q = asked c.args.question in
-    let taken = c.in-ok-admit.ensures in
+    let taken = c.in_ok-admit.ensures in
     let small = taken.small in
     let few = taken.proper.few in
     let fits = taken.fits in
@@ -23,7 +23,7 @@ write_used-c-requires c =
 pub returns-else-solve : goal.returns-else-solve
 returns-else-solve c =
     let q = asked c.args.question in
-    let taken = c.in-ok-admit.ensures in
+    let taken = c.in_ok-admit.ensures in
     let marks = c.solve.new.marks in
     let same : records_of c.new-chain.result ≡ clauses q = c.new-chain.ensures.records (c.new-chain.ensures.sound.1 taken.proper.sound) in
     let clash : Clash (clauses q) (used marks q.assumed) = subst (λ cs. Clash cs (used marks q.assumed)) same c.if-solve.ensures in
@@ -35,7 +35,7 @@ returns-else-solve c =
 pub returns-then-solve : goal.returns-then-solve
 returns-then-solve c =
     let q = asked c.args.question in
-    let taken = c.in-ok-admit.ensures in
+    let taken = c.in_ok-admit.ensures in
     let same : records_of c.new-chain.result ≡ clauses q = c.new-chain.ensures.records (c.new-chain.ensures.sound.1 taken.proper.sound) in
     let solved : Solved q.signals (clauses q) q.assumed c.solve.new.values c.solve.new.marks true =
     solved_same _ _ _ _ q.assumed c.solve.new.values c.solve.new.marks c.new-chain.ensures.signals same c.if-solve.ensures in

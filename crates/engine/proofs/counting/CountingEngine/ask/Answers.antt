@@ -12,7 +12,7 @@ use Rattle.engine.proofs.counting.CountingEngine.ask.Goals as goal
 pub returns-in-Some : goal.returns-in-Some
 returns-in-Some c =
     let q = asked c.args.question in
-    let taken = c.in-ok-admit.ensures in
+    let taken = c.in_ok-admit.ensures in
     let same : records_of c.new-chain.result ≡ clauses q = c.new-chain.ensures.records (c.new-chain.ensures.sound.1 taken.proper.sound) in
     let least : Least q.signals (clauses q) q.assumed (Some c.in-Some.n) = least_same _ _ _ _ q.assumed (Some c.in-Some.n) c.new-chain.ensures.signals same c.in-Some.ensures in
     let a = numbered q.signals c.in-Some.n in
@@ -25,7 +25,7 @@ returns-in-Some c =
 pub returns-in-None : goal.returns-in-None
 returns-in-None c =
     let q = asked c.args.question in
-    let taken = c.in-ok-admit.ensures in
+    let taken = c.in_ok-admit.ensures in
     let same : records_of c.new-chain.result ≡ clauses q = c.new-chain.ensures.records (c.new-chain.ensures.sound.1 taken.proper.sound) in
     let least : Least q.signals (clauses q) q.assumed None = least_same _ _ _ _ q.assumed None c.new-chain.ensures.signals same c.in-None.ensures in
     let xs = q.assumed in

@@ -10,8 +10,8 @@ use Rattle.trimmer.proofs.trim.TrimmerEngine.ask.Goals as goal
 pub copy_front-requires-in-No : goal.copy_front-requires-in-No
 copy_front-requires-in-No g c =
     let q = asked c.args.question in
-    let below = c.in-ok-ask.ensures in
-    let named = named_from_no q c.args.self.now.answer c.ask.new.out c.in-ok-ask.field-0 c.in-No.c c.in-No.is below.1 in
+    let below = c.in_ok-ask.ensures in
+    let named = named_from_no q c.args.self.now.answer c.ask.new.out c.in_ok-ask.field-0 c.in-No.c c.in-No.is below.1 in
     let few = named.few in
     let fits = below.0.proper.few in
     let room : length c.ask.new.out ≡ 1280 = search rules in
@@ -21,8 +21,8 @@ copy_front-requires-in-No g c =
 pub trim-n-requires : goal.trim-n-requires
 trim-n-requires g c =
     let q = asked c.args.question in
-    let below = c.in-ok-ask.ensures in
-    let named = named_from_no q c.args.self.now.answer c.ask.new.out c.in-ok-ask.field-0 c.in-No.c c.in-No.is below.1 in
+    let below = c.in_ok-ask.ensures in
+    let named = named_from_no q c.args.self.now.answer c.ask.new.out c.in_ok-ask.field-0 c.in-No.c c.in-No.is below.1 in
     let few = named.few in
     let fits = below.0.proper.few in
     let room : length c.ask.new.out ≡ 1280 = search rules in
@@ -45,8 +45,8 @@ trim-n-requires g c =
 pub copy_front-requires-in-No-2 : goal.copy_front-requires-in-No-2
 copy_front-requires-in-No-2 g c =
     let q = asked c.args.question in
-    let below = c.in-ok-ask.ensures in
-    let named = named_from_no q c.args.self.now.answer c.ask.new.out c.in-ok-ask.field-0 c.in-No.c c.in-No.is below.1 in
+    let below = c.in_ok-ask.ensures in
+    let named = named_from_no q c.args.self.now.answer c.ask.new.out c.in_ok-ask.field-0 c.in-No.c c.in-No.is below.1 in
     let few = named.few in
     let fits = below.0.proper.few in
     let fewer = c.trim-n.ensures.fewer in
@@ -56,8 +56,8 @@ copy_front-requires-in-No-2 g c =
 pub returns-in-Yes : goal.returns-in-Yes
 returns-in-Yes g c =
     let q = asked c.args.question in
-    let below = c.in-ok-ask.ensures in
-    let found = values_from_yes q c.args.self.now.answer c.ask.new.out c.args.out.now c.in-ok-ask.field-0 c.in-Yes.is below.1 in
+    let below = c.in_ok-ask.ensures in
+    let found = values_from_yes q c.args.self.now.answer c.ask.new.out c.args.out.now c.in_ok-ask.field-0 c.in-Yes.is below.1 in
     record {
       answered = (record { small = omega arith; fits = c.if-out-question.false; proper = below.0.proper }, (found.0, found.1, c.copy_front.ensures ∙ found.2));
       trimmed = tt;
@@ -66,8 +66,8 @@ returns-in-Yes g c =
 pub returns-in-No : goal.returns-in-No
 returns-in-No g c =
     let q = asked c.args.question in
-    let below = c.in-ok-ask.ensures in
-    let named = named_from_no q c.args.self.now.answer c.ask.new.out c.in-ok-ask.field-0 c.in-No.c c.in-No.is below.1 in
+    let below = c.in_ok-ask.ensures in
+    let named = named_from_no q c.args.self.now.answer c.ask.new.out c.in_ok-ask.field-0 c.in-No.c c.in-No.is below.1 in
     let few = named.few in
     let fits = below.0.proper.few in
     let fewer = c.trim-n.ensures.fewer in
