@@ -6,7 +6,7 @@ use Rattle.reader.proofs.clauses.read_clauses.Goals as goal
 
 pub returns-in_err-read_clause : goal.returns-in_err-read_clause
 returns-in_err-read_clause c =
-    let p = err_from_is_err_and c.from-residual.result c.from-residual.ensures.1 in
+    let p = err_from_is_err_and c.from_residual.result c.from_residual.ensures.1 in
     let told = c.in_err-read_clause.ensures in
     let n = size c.args.words.now in
     let same : size c.loop-i.words ≡ n = c.loop-i.invariant.0 in

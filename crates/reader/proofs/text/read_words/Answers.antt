@@ -18,13 +18,13 @@ begins c =
 
 pub returns-in_err-read_blocks : goal.returns-in_err-read_blocks
 returns-in_err-read_blocks c =
-    let p = err_from_is_err_and c.from-residual-in_err-read_blocks.result c.from-residual-in_err-read_blocks.ensures.1 in
+    let p = err_from_is_err_and c.from_residual-in_err-read_blocks.result c.from_residual-in_err-read_blocks.ensures.1 in
     rw (p.1, p.2)
     (sym (begins (goal.at.returns-in_err-read_blocks c).In-Some ∙ c.in_err-read_blocks.ensures.reads c.in_ok-header.header.clauses))
 
 pub returns-in_err-check_last_block : goal.returns-in_err-check_last_block
 returns-in_err-check_last_block c =
-    let p = err_from_is_err_and c.from-residual-in_err-check_last_block.result c.from-residual-in_err-check_last_block.ensures.1 in
+    let p = err_from_is_err_and c.from_residual-in_err-check_last_block.result c.from_residual-in_err-check_last_block.ensures.1 in
     let told = c.in_ok-read_blocks.ensures in
     let k = c.in_ok-header.header.clauses in
     rw (p.1, p.2)
