@@ -10,8 +10,8 @@ returns-in_err-read_clause c =
     let told = c.in_err-read_clause.ensures in
     let n = size c.args.words.now in
     let same : size c.loop-i.words ≡ n = c.loop-i.invariant.0 in
-    let m : ℕ = c.args.count - c.loop-i.-i - 1 in
-    let one : c.args.count - c.loop-i.-i ≡ suc m = omega arith in
+    let m : ℕ = c.args.count - c.loop-i._i - 1 in
+    let one : c.args.count - c.loop-i._i ≡ suc m = omega arith in
     rw (p.1, p.2)
     record {
       size = told.size ∙ same;
