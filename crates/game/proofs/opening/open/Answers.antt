@@ -35,7 +35,7 @@ invariant_of-table c =
     let p = proper c.in_ok-formula.formula in
     let limits : Limits (opened_game q c.args.number c.args.pool.now) = (p.few_variables, p.few_clauses, p.few_levels, omega arith) in
     let filled : Filled (opened_game q c.args.number c.args.pool.now) = (chains_some (unused c.args.pool.now) (open_chains q) (omega arith), omega arith, length_put 0 (new_levels q.clauses q.variables (laid (unused c.args.pool.now) q.clauses) q.first q.levels) (replicate 32 blank)) in
-    (subst Limits (sym c.write_game.ensures.game) limits, (subst Filled (sym c.write_game.ensures.game) filled, tt))
+    record { limits = subst Limits (sym c.write_game.ensures.game) limits; filled = λ _. subst Filled (sym c.write_game.ensures.game) filled }
 
 pub returns : goal.returns
 returns c =
