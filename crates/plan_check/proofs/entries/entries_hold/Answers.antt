@@ -22,7 +22,7 @@ loop-entry-init g c =
     let P : Entry → Type 0 = EntryCheck (clauses_of game pool) game.variables c.args.side (shown_from game pool (c.args.m + 1)) in
     let Form : List ℤ → Type 0 = EntryForm game.variables game.clauses (level_of game c.args.m).side (variables_at game c.args.m) in
     let entries = (c.requires.0.sound.levels c.args.m c.requires.1.0).entries in
-    let same : records_of c.chain_rest.result ≡ records pool (level_of game c.args.m).entries = c.chain_rest.ensures.records (c.chain_rest.ensures.sound.1 entries.chain) in
+    let same : records_of c.chain-rest.result ≡ records pool (level_of game c.args.m).entries = c.chain-rest.ensures.records (c.chain-rest.ensures.sound.1 entries.chain) in
     (subst (λ l. All P (entries_in game pool c.args.m) ↔ All P (each (entry_of game.variables) l)) (sym same) ((λ w. w), (λ w. w)), subst (All Form) (sym same) entries.forms)
 
 pub entry_holds-requires : goal.entry_holds-requires

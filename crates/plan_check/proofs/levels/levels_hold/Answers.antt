@@ -21,7 +21,7 @@ loop-m-preserved g c =
     let pool = c.args.pool.now in
     let m = c.loop-m.m in
     let is = shown_here game pool m c.loop-m-test.true (omega (arith, c.requires.0.limits.2, c.requires.0.places)) in
-    level_next (clauses_of game pool) game.variables c.args.side c.loop-m.level _ (shown_from game pool m) c.loop-m.invariant (level_shown game pool m) (shown_from game pool (m + 1)) is c.other_level.result c.other_level.ensures (c.if-not-level_holds.ensures.0 refl)
+    level_next (clauses_of game pool) game.variables c.args.side c.loop-m.level _ (shown_from game pool m) c.loop-m.invariant (level_shown game pool m) (shown_from game pool (m + 1)) is c.other-level.result c.other-level.ensures (c.if-not-level_holds.ensures.0 refl)
 
 pub returns : goal.returns
 returns g c =

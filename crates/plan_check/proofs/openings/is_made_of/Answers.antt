@@ -3,7 +3,7 @@ use Rattle.std.proofs.lemmas.Slice.Eq.{slice_eq-Decides}
 use Rattle.std.proofs.lemmas.List.{drop_all, take_rest}
 use Rattle.std.proofs.lemmas.Int.{to_z-of_z}
 use Rattle.std.proofs.lemmas.Bool.{false≢true}
-use Rattle.std.proofs.lemmas.Bool.Decides.{Decides-like, not_from_Decides, Decides-eqb}
+use Rattle.std.proofs.lemmas.Bool.Decides.{Decides-like, not_from_Decides, Decides-int_eq}
 use Rattle.formula.specs.Lists.{elem, keep}
 use Rattle.layout.specs.Shown.{variables_at}
 use Rattle.plan_check.proofs.Fronts.{kept, left_out, front_skip, front_short, front_other, front_next, front_end}
@@ -62,4 +62,4 @@ returns c =
     let ys = c.args.numbers.now in
     let rest = take_rest ys c.loop-l.at in
     let ends = front_end _ ys c.args.tail.now c.loop-l.at _ c.loop-l.invariant.1 (ap (keep p) (drop_all c.loop-l.l-index c.args.clause.now c.loop-l-test.false)) in
-    Decides-like c.eq.result (λ e. ends.1 (sym rest ∙ e)) (λ w. rest ∙ ends.0 w) (slice_eq-Decides Decides-eqb _ _ _ c.eq.ensures)
+    Decides-like c.eq.result (λ e. ends.1 (sym rest ∙ e)) (λ w. rest ∙ ends.0 w) (slice_eq-Decides Decides-int_eq _ _ _ c.eq.ensures)
