@@ -1,9 +1,8 @@
 -- The assignment that a complete row of values has. Assumes nothing.
-use Rattle.std.proofs.Common.{◌≡◌, ℕ, zero, suc, ◌+◌, ◌-◌, ◌<◌, ◌≤◌, Bool, true, false, cond, not, ◌⊎◌, List, [], ◌∷◌, ◌++◌, length, take, ℤ, pos, negsuc, nat_abs, Some, MatchBool, sym, refl, ap, ◌∙◌, subst, ⊎_elim, add-one, arith}
+use Rattle.std.proofs.Common.{◌≡◌, ℕ, zero, suc, ◌+◌, ◌-◌, ◌≤◌, Bool, true, false, cond, List, [], ◌∷◌, ◌++◌, length, take, ℤ, pos, negsuc, nat_abs, Some, MatchBool, sym, refl, ap, ◌∙◌, subst, ⊎_elim, add-one, arith}
 use Rattle.std.proofs.lemmas.List.{take_more, take_at, take_all}
-use Rattle.engine.specs.Truth.{literal, each}
 use Rattle.engine.specs.Meaning.{values, value_after}
-use Rattle.propagation.specs.Rows.{at, Shaped, Agrees}
+use Rattle.propagation.specs.Rows.{at, Shaped}
 use Rattle.branching.specs.Search.{positive, Complete}
 use Rattle.branching.proofs.Order.{reads, agrees_reads, number_first}
 use Rattle.propagation.specs.Steps.{Stuck}

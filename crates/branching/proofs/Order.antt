@@ -1,12 +1,12 @@
 -- Rows as assignments, in order. Assumes nothing.
-use Rattle.std.proofs.Common.{◌≡◌, ℕ, zero, suc, ◌+◌, ◌-◌, ◌*◌, ◌<◌, ◌≤◌, Bool, true, false, cond, not, ◌⊎◌, List, [], ◌∷◌, length, get_or, set, ℤ, pos, negsuc, nat_abs, sym, refl, ap, ◌∙◌, subst, inl, inr, ⊎_elim, add-one, arith}
+use Rattle.std.proofs.Common.{◌≡◌, ℕ, zero, suc, ◌+◌, ◌-◌, ◌<◌, ◌≤◌, Bool, true, false, cond, not, ◌⊎◌, List, [], ◌∷◌, length, ℤ, pos, negsuc, nat_abs, sym, refl, ap, ◌∙◌, subst, inl, inr, ⊎_elim, add-one, arith}
 use Rattle.std.specs.List.{AllByRecursion as All}
 use Rattle.std.proofs.lemmas.Bool.{not-true, cases_lt}
 use Rattle.engine.specs.Truth.{literal}
 use Rattle.engine.specs.Count.{number}
-use Rattle.propagation.specs.Rows.{at, word_of, Agrees}
+use Rattle.propagation.specs.Rows.{at, Agrees}
 use Rattle.branching.specs.Search.{positive, NotBefore}
-use Rattle.propagation.specs.Steps.{Holding, Silent, Forced}
+use Rattle.propagation.specs.Steps.{Silent}
 use Rattle.branching.specs.Search.{From}
 
 -- the assignment that a row has

@@ -1,5 +1,5 @@
 -- The row of the assumptions. Assumes nothing.
-use Rattle.std.proofs.Common.{◌≡◌, ℕ, zero, suc, ◌+◌, ◌-◌, ◌<◌, ◌≤◌, Bool, true, false, ◌⊎◌, List, [], ◌∷◌, length, get_or, set, replicate, ℤ, pos, nat_abs, sym, refl, ap, ◌∙◌, subst, inl, inr, ⊎_elim, arith}
+use Rattle.std.proofs.Common.{◌≡◌, ℕ, zero, suc, ◌+◌, ◌-◌, ◌<◌, Bool, true, false, List, [], ◌∷◌, length, get_or, set, replicate, ℤ, pos, nat_abs, sym, refl, ap, ◌∙◌, subst, ⊎_elim, arith}
 use Rattle.std.proofs.lemmas.List.{length-set, get_or-replicate, get_or-set_same, get_or-set_other}
 use Rattle.std.proofs.lemmas.Bool.{and_from, both_ways, cases_eq}
 use Rattle.pool.specs.Records.{Literal}
@@ -7,7 +7,6 @@ use Rattle.engine.specs.Truth.{literal, each}
 use Rattle.propagation.specs.Rows.{at, word_of, Shaped, False, Agrees, opens}
 use Rattle.branching.specs.Search.{used}
 use Rattle.propagation.proofs.Growing.{opposite}
-use Rattle.propagation.proofs.Blocks.{set_grows}
 use Rattle.branching.proofs.Uses.{used_at}
 
 -- a row of open signals

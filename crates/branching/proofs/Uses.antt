@@ -1,11 +1,11 @@
 -- The marked assumptions, and what they say. Assumes nothing.
-use Rattle.std.proofs.Common.{◌≡◌, ℕ, zero, suc, ◌+◌, ◌-◌, ◌<◌, ◌≤◌, Bool, true, false, cond, List, [], ◌∷◌, ◌++◌, length, get_or, take, drop, set, ℤ, pos, nat_abs, sym, refl, ap, ◌∙◌, subst, append_assoc, append-nil, arith}
-use Rattle.std.proofs.lemmas.List.{take_more, length_push, drop_more, set_at}
-use Rattle.std.proofs.lemmas.Bool.{and_parts, and_from, false≢true}
-use Rattle.engine.specs.Truth.{literal, each, chain}
+use Rattle.std.proofs.Common.{◌≡◌, ℕ, zero, suc, ◌+◌, ◌-◌, ◌<◌, Bool, true, false, cond, List, [], ◌∷◌, ◌++◌, length, get_or, take, drop, set, ℤ, pos, nat_abs, sym, refl, ap, ◌∙◌, append_assoc, append-nil, arith}
+use Rattle.std.proofs.lemmas.List.{take_more, drop_more, set_at}
+use Rattle.std.proofs.lemmas.Bool.{and_parts}
+use Rattle.engine.specs.Truth.{literal, each}
 use Rattle.engine.specs.Meaning.{Part, Clash}
 use Rattle.engine.specs.Meaning.Part.{none, keep, leave}
-use Rattle.propagation.specs.Rows.{at, Agrees, AgreesOn, Blocked}
+use Rattle.propagation.specs.Rows.{at, Agrees, Blocked}
 use Rattle.branching.specs.Search.{used}
 
 -- a marked assumption holds where the marked ones do

@@ -1,5 +1,5 @@
 -- What a layer learns of the answer below it. Assumes nothing.
-use Rattle.std.proofs.Common.{◌≡◌, ℕ, ◌≤◌, Bool, List, ◌++◌, length, take, drop, ℤ, sym, refl, ap, ◌∙◌, subst, le_trans, arith}
+use Rattle.std.proofs.Common.{◌≡◌, ℕ, ◌≤◌, Bool, List, ◌++◌, length, take, drop, ℤ, sym, ap, ◌∙◌, subst, le_trans, arith}
 use Rattle.std.proofs.lemmas.List.{take_at, length-take-le}
 use Rattle.engine.specs.declared.question.Answer.{Answer}
 use Rattle.engine.specs.declared.question.Answer.TheVariants.{Yes, No}

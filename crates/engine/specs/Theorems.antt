@@ -1,5 +1,5 @@
 -- What the meaning of an answer says of any two engines. Assumes nothing.
-use Rattle.std.specs.Prelude.{ℕ, List, ℤ, Ok, Err}
+use Rattle.std.specs.Prelude.{ℕ, List, ℤ, Ok}
 use Rattle.engine.specs.declared.question.Answer.TheVariants.{Yes, No}
 use Rattle.engine.specs.Meaning.{Asked, Answered}
 

@@ -1,5 +1,6 @@
 // Engines that answer questions of satisfiability over clauses in a pool, all against one meaning.
 #![tactic(auto)]
+
 mod admission;
 mod asking;
 mod counting;

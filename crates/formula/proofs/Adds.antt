@@ -1,5 +1,5 @@
 -- When a literal is taken, and what the arrays then stand for.
-use Rattle.std.proofs.Common.{◌≡◌, ℕ, ◌+◌, ◌-◌, ◌<◌, ◌≤◌, false, eqb, ltb, leb, length, get_or, take, drop, set, ℤ, nat_abs, Ok, sym, refl, ap, ◌∙◌, ap₂, arith}
+use Rattle.std.proofs.Common.{◌≡◌, ◌+◌, ◌-◌, ◌<◌, ◌≤◌, false, leb, length, get_or, take, drop, set, ℤ, nat_abs, Ok, ap, ◌∙◌, ap₂}
 use native.Mathlib.Nat.{sub_self}
 use Rattle.std.proofs.lemmas.List.{get_or-set_same}
 use Rattle.std.proofs.lemmas.Bool.{cond-false, ne_eqb, le-ltb}

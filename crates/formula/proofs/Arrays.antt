@@ -1,9 +1,8 @@
 -- What one write into the arrays of a formula changes, and what it leaves.
-use Rattle.std.proofs.Common.{◌≡◌, ℕ, zero, suc, ◌+◌, ◌-◌, ◌<◌, ◌≤◌, Bool, true, false, eqb, ◌≢◌, List, [], ◌∷◌, ◌++◌, length, get_or, take, drop, set, ℤ, sym, refl, ap, ◌∙◌, subst, ⊎_elim, add-one, arith}
-use native.Mathlib.Nat.{sub_self}
-use Rattle.std.proofs.lemmas.List.{get_or-set_same, get_or-set_other, take-set-le, drop-take, take_more_set, drop-append-le, length-take-le, set_past}
-use Rattle.std.proofs.lemmas.Bool.{cases_eq, cases_lt, ne_eqb}
-use Rattle.formula.specs.Lists.{each, keep, from, below}
+use Rattle.std.proofs.Common.{◌≡◌, ℕ, zero, suc, ◌+◌, ◌-◌, ◌<◌, ◌≤◌, eqb, ◌≢◌, List, [], ◌∷◌, ◌++◌, length, get_or, take, drop, set, ℤ, sym, refl, ap, ◌∙◌, subst, ⊎_elim, arith}
+use Rattle.std.proofs.lemmas.List.{get_or-set_same, get_or-set_other, take-set-le, drop-take, take_more_set, drop-append-le, length-take-le}
+use Rattle.std.proofs.lemmas.Bool.{cases_eq, ne_eqb}
+use Rattle.formula.specs.Lists.{each, from, below}
 use Rattle.formula.specs.Found.{binds_at, variables_of}
 use Rattle.formula.specs.Built.{clause_in}
 use Rattle.formula.proofs.Ranges.{keep_same, length_from}

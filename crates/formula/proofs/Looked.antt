@@ -1,8 +1,8 @@
 -- What is read off the arrays of a whole formula, as facts of the formula that they stand for.
-use Rattle.std.proofs.Common.{◌≡◌, ℕ, zero, suc, ◌+◌, ◌-◌, ◌<◌, ◌≤◌, Bool, true, false, ◌||◌, eqb, ltb, leb, ◌⊎◌, List, [], ◌∷◌, ◌++◌, length, get_or, ℤ, sym, refl, ap, ◌∙◌, ⊎_elim, add-zero, add-suc, zero-add, add-one, arith}
+use Rattle.std.proofs.Common.{◌≡◌, ℕ, zero, suc, ◌+◌, ◌-◌, ◌<◌, ◌≤◌, Bool, true, false, ◌||◌, ltb, ◌⊎◌, List, [], ◌∷◌, length, get_or, ℤ, sym, refl, ap, ◌∙◌, ⊎_elim, add-zero, arith}
 use Rattle.std.proofs.lemmas.Bool.{cond_both, cond-true, cond-false, ne_eqb, eq-eqb, lt-ltb, le-ltb, cases_lt}
 use Rattle.formula.specs.Lists.{each, keep, from, below, elem}
-use Rattle.formula.specs.Found.{binds_at, variables_of, first_of}
+use Rattle.formula.specs.Found.{first_of}
 use Rattle.std.proofs.lemmas.List.{get_or_past}
 use Rattle.formula.specs.Game.{Qbf}
 use Rattle.formula.specs.Model.{level_at, clause_at, bound_in}

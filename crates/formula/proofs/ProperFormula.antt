@@ -1,6 +1,6 @@
 -- What the arrays of a whole formula stand for is a proper formula.
-use Rattle.std.proofs.Common.{◌≡◌, ℕ, zero, suc, ◌+◌, ◌-◌, ◌%◌, ◌<◌, ◌≤◌, min, Bool, true, false, cond, T, eqb, ◌⊎◌, List, [], ◌∷◌, ◌++◌, length, get_or, take, drop, ℤ, pos, nat_abs, sym, refl, ap, ◌∙◌, subst, inl, inr, ⊎_elim, add-zero, add-one, arith}
-use Rattle.std.proofs.lemmas.List.{length-take, length-drop, get_or-take, get_or-drop}
+use Rattle.std.proofs.Common.{◌≡◌, ℕ, zero, suc, ◌+◌, ◌-◌, ◌%◌, ◌<◌, ◌≤◌, min, Bool, true, T, List, [], ◌∷◌, ◌++◌, length, get_or, take, drop, ℤ, pos, nat_abs, sym, refl, ap, ◌∙◌, subst, inl, inr, ⊎_elim, add-one, arith}
+use Rattle.std.proofs.lemmas.List.{length-take, get_or-take, get_or-drop}
 use Rattle.std.proofs.lemmas.Bool.{cond-true, cond-false, cond_both, cases_eq, cases_lt, eq-eqb, ne_eqb}
 use Rattle.formula.specs.declared.side.Side.{Side}
 use Rattle.formula.specs.declared.side.Side.TheVariants.{Ours, Device}
@@ -13,7 +13,6 @@ use Rattle.formula.specs.Found.{binds_at, variables_of}
 use Rattle.formula.specs.Built.{clause_in}
 use Rattle.formula.specs.Model.{qbf}
 use Rattle.formula.specs.Proper.{literals_of, Ascending, LastOurs, Bound, Proper}
-use Rattle.formula.proofs.Tests.{is_true}
 use Rattle.formula.proofs.Maps.{each-below-push}
 use Rattle.formula.proofs.Arrays.{count_clauses, ends_below}
 use Rattle.formula.proofs.Looked.{count_levels, elem_kept}

@@ -1,7 +1,7 @@
 -- A formula while it is built: what has been declared, bound and written so far, and what each call adds or refuses.
 use Rattle.std.specs.Prelude.{ℕ, ◌+◌, ◌-◌, Bool, cond, not, ◌&&◌, ◌||◌, List, [], ◌∷◌, ◌++◌, length, take, drop, replicate, ℤ, Some, None, Ok, Err, Option, Result, ◌==◌, nat_le, nat_lt, slice_index, slice_set, unsigned_abs}
 use Rattle.formula.specs.declared.side.Side.{Side}
-use Rattle.formula.specs.declared.side.Side.TheVariants.{Ours, Device}
+use Rattle.formula.specs.declared.side.Side.TheVariants.{Ours}
 use Rattle.formula.specs.declared.parts.Parts.{Parts}
 use Rattle.formula.specs.declared.faults.BindFault.{BindFault}
 use Rattle.formula.specs.declared.faults.BindFault.TheVariants.{NoVariable, BoundTwice}

@@ -1,9 +1,9 @@
 -- What holds of every formula that is read: its limits, and what the game needs of its levels and literals.
-use Rattle.std.specs.Prelude.{◌≡◌, ℕ, ◌+◌, ◌<◌, ◌≤◌, true, T, List, [], ◌∷◌, length, ℤ, unsigned_abs}
+use Rattle.std.specs.Prelude.{◌≡◌, ℕ, ◌+◌, ◌<◌, ◌≤◌, T, List, [], ◌∷◌, length, unsigned_abs}
 use Rattle.formula.specs.Lists.{All, Any, elem}
 use Rattle.formula.specs.Game.{Qbf, Clauses, other}
 use Rattle.formula.specs.declared.side.Side.{Side}
-use Rattle.formula.specs.declared.side.Side.TheVariants.{Ours, Device}
+use Rattle.formula.specs.declared.side.Side.TheVariants.{Ours}
 
 -- the literals of all clauses
 abbrev pub literals_of : Clauses → ℕ

@@ -1,5 +1,5 @@
 -- One record of a sound chain after another: the fuel does not matter where it reaches the index. Assumes nothing.
-use Rattle.std.proofs.Common.{◌≡◌, ℕ, zero, suc, ◌+◌, ◌<◌, ◌≤◌, ◌↔◌, List, [], ◌∷◌, length, ℤ, sym, refl, ap, ◌∙◌, le_trans, arith}
+use Rattle.std.proofs.Common.{◌≡◌, ℕ, zero, suc, ◌<◌, ◌≤◌, ◌↔◌, List, [], ◌∷◌, length, ℤ, sym, refl, ap, le_trans, arith}
 use Rattle.std.specs.List.{AllByRecursion as All}
 use Rattle.pool.specs.Layout.{next_at, numbers_at, Lies}
 use Rattle.pool.specs.Records.{walk, records, Literal, Whole, Linked, Sound}

@@ -1,9 +1,9 @@
 -- The tests of soundness say what soundness does. Assumes nothing.
-use Rattle.std.proofs.Common.{◌≡◌, ℕ, zero, suc, ◌+◌, ◌<◌, ◌≤◌, Bool, true, false, ◌&&◌, T, eqb, ltb, leb, List, [], ◌∷◌, ℤ, pos, nat_abs, ◌≤ℤ◌, refl}
+use Rattle.std.proofs.Common.{◌≡◌, ℕ, zero, suc, ◌+◌, Bool, true, false, ◌&&◌, T, ltb, leb, List, [], ◌∷◌, ℤ, pos, nat_abs, refl}
 use lib.Signed.{le_z, le_z_yes}
 use Rattle.std.specs.List.{AllByRecursion as All}
 use Rattle.std.proofs.lemmas.Bool.{false≢true, and_parts, and_from, leb-true, le-leb, ltb-true, lt-ltb, eqb-true, eq-eqb}
-use Rattle.pool.specs.Layout.{word_at, next_at, count_at, numbers_at, Lies}
+use Rattle.pool.specs.Layout.{word_at, next_at, count_at, numbers_at}
 use Rattle.pool.specs.Records.{Literal, Whole, Linked}
 use Rattle.pool.specs.Tests.{are_literals, is_whole, is_linked}
 

@@ -1,5 +1,5 @@
 -- What an appended record makes of the pool: every other chain stays, and the new one has the record in front. Assumes nothing.
-use Rattle.std.proofs.Common.{◌≡◌, ℕ, zero, suc, ◌+◌, ◌-◌, ◌<◌, ◌≤◌, max, Bool, true, false, T, leb, List, [], ◌∷◌, ◌++◌, length, get_or, take, drop, set, ℤ, pos, nat_abs, ◌≤ℤ◌, sym, refl, ap, ◌∙◌, subst, append_assoc, le_trans, add-zero, arith, w32, to_z}
+use Rattle.std.proofs.Common.{◌≡◌, ℕ, ◌+◌, ◌-◌, ◌<◌, ◌≤◌, Bool, true, false, T, leb, List, [], ◌∷◌, ◌++◌, length, get_or, take, drop, set, ℤ, pos, nat_abs, ◌≤ℤ◌, sym, refl, ap, ◌∙◌, subst, append_assoc, add-zero, arith, w32, to_z}
 use lib.Signed.{le_z, le_z_yes}
 use lib.Seq.{drop-append-add}
 use borrow.Rule.Slice.PartMut.{put_mid}
@@ -8,8 +8,8 @@ use Rattle.std.proofs.lemmas.List.{length-set, length-append, length-take-le, le
 use Rattle.std.proofs.lemmas.Int.{to_z_pos}
 use Rattle.std.proofs.lemmas.Bool.{false≢true, le-leb}
 use Rattle.std.proofs.lemmas.Slice.{take-put_mid, drop-put_mid}
-use Rattle.pool.specs.Layout.{word_at, next_at, count_at, numbers_at, record_words, size_for, place_after, Lies}
-use Rattle.pool.specs.Records.{records, walk, Literal, Linked, Sound}
+use Rattle.pool.specs.Layout.{word_at, next_at, count_at, numbers_at, record_words, size_for, place_after}
+use Rattle.pool.specs.Records.{records, Literal, Linked, Sound}
 use Rattle.pool.specs.Append.{Room, written}
 use Rattle.pool.proofs.Chains.{linked_step, records_step, linked_within}
 use Rattle.pool.proofs.Kept.{sound_kept, records_kept}

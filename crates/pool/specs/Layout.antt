@@ -1,6 +1,6 @@
 -- How a record lies in a pool of words: the next record's index, a count, and that many numbers. Assumes nothing.
 -- For example, in the pool 9 0 2 4 -5 the record at 1 is the last of its chain and has the numbers 4 -5.
-use Rattle.std.specs.Prelude.{ℕ, ◌+◌, ◌≤◌, max, List, ◌∷◌, ◌++◌, length, take, drop, ℤ, pos, ◌≤ℤ◌, slice_index_or, unsigned_abs}
+use Rattle.std.specs.Prelude.{ℕ, ◌+◌, ◌≤◌, max, List, ◌∷◌, length, take, drop, ℤ, pos, ◌≤ℤ◌, slice_index_or, unsigned_abs}
 
 -- the word at an index, which is 0 past the pool's end
 abbrev pub word_at : List ℤ → ℕ → ℤ

@@ -1,5 +1,5 @@
 -- Soundness as tests that compute, so that a struct can keep them as its invariant. Assumes nothing.
-use Rattle.std.specs.Prelude.{ℕ, zero, suc, ◌+◌, Bool, true, false, ◌&&◌, List, [], ◌∷◌, ℤ, pos, ◌==◌, int_le, nat_le, nat_lt, unsigned_abs}
+use Rattle.std.specs.Prelude.{ℕ, zero, suc, ◌+◌, Bool, true, ◌&&◌, List, [], ◌∷◌, ℤ, pos, ◌==◌, int_le, nat_le, nat_lt, unsigned_abs}
 use Rattle.pool.specs.Layout.{word_at, next_at, count_at, numbers_at}
 
 abbrev pub are_literals : ℕ → List ℤ → Bool

@@ -1,5 +1,6 @@
 // Chains of records in a pool of signed words. This crate alone knows how the words of a record lie.
 #![tactic(auto)]
+
 mod chain;
 mod extend;
 mod size;

@@ -1,12 +1,12 @@
 -- A clash rests on the marked signals alone, when a signal is opened again. Assumes nothing.
-use Rattle.std.proofs.Common.{◌≡◌, ℕ, zero, suc, ◌+◌, ◌-◌, ◌<◌, ◌≤◌, Bool, true, false, not, ◌||◌, ◌⊎◌, List, [], ◌∷◌, length, get_or, set, ℤ, pos, negsuc, nat_abs, sym, refl, ap, ◌∙◌, subst, inl, inr, ⊎_elim, arith}
+use Rattle.std.proofs.Common.{◌≡◌, ℕ, suc, ◌+◌, ◌-◌, ◌<◌, Bool, true, false, ◌||◌, ◌⊎◌, List, [], ◌∷◌, length, get_or, set, ℤ, pos, nat_abs, sym, refl, ap, ◌∙◌, subst, inl, inr, ⊎_elim, arith}
 use Rattle.std.specs.List.{AllByRecursion as All}
 use Rattle.std.proofs.ByRecursion.{All-get_or}
 use Rattle.std.proofs.lemmas.List.{length-set, get_or-set_same, get_or-set_other}
 use Rattle.std.proofs.lemmas.Bool.{cases_eq, both_ways, false≢true}
 use Rattle.pool.specs.Records.{Literal}
 use Rattle.engine.specs.Truth.{literal, clause, chain}
-use Rattle.propagation.specs.Rows.{at, word_of, Shaped, False, Agrees, AgreesOn, Refuted, Blocked}
+use Rattle.propagation.specs.Rows.{at, word_of, Shaped, False, AgreesOn, Refuted, Blocked}
 use Rattle.propagation.specs.Steps.{Forced}
 use Rattle.propagation.proofs.Growing.{opposite}
 

@@ -1,7 +1,7 @@
 -- A row of values with one signal more or less. Assumes nothing.
-use Rattle.std.proofs.Common.{◌≡◌, ℕ, zero, suc, ◌+◌, ◌-◌, ◌<◌, ◌≤◌, Bool, true, false, cond, not, eqb, ◌≢◌, ◌⊎◌, List, [], ◌∷◌, length, get_or, take, set, ℤ, pos, negsuc, nat_abs, sym, refl, ap, ◌∙◌, subst, inl, inr, ⊎_elim, arith}
+use Rattle.std.proofs.Common.{◌≡◌, ℕ, zero, suc, ◌+◌, ◌-◌, ◌<◌, ◌≤◌, Bool, true, false, cond, not, eqb, ◌⊎◌, List, [], ◌∷◌, length, get_or, take, set, ℤ, pos, negsuc, nat_abs, sym, refl, ap, ◌∙◌, subst, inr, ⊎_elim, arith}
 use Rattle.std.proofs.lemmas.List.{length-set, get_or-set_same, get_or-set_other, set-set, set-get_or, get_or-take, take-take, take-set-le}
-use Rattle.std.proofs.lemmas.Bool.{cases_eq, cases_lt, not-true, eqb-true, ne_eqb, eq-eqb}
+use Rattle.std.proofs.lemmas.Bool.{cases_eq, not-true, ne_eqb, eq-eqb}
 use Rattle.pool.specs.Records.{Literal}
 use Rattle.engine.specs.Truth.{literal}
 use Rattle.propagation.specs.Rows.{at, Shaped, Agrees, opens, back}

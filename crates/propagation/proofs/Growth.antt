@@ -1,16 +1,16 @@
 -- How a row of values grows by what follows from the records, and by a branch. Assumes nothing.
-use Rattle.std.proofs.Common.{◌≡◌, ℕ, zero, suc, ◌+◌, ◌-◌, ◌<◌, ◌≤◌, Bool, true, false, not, ◌⊎◌, List, [], ◌∷◌, length, get_or, take, set, ℤ, pos, nat_abs, sym, refl, ap, ◌∙◌, subst, inl, inr, ⊎_elim, arith}
+use Rattle.std.proofs.Common.{◌≡◌, ℕ, ◌+◌, ◌-◌, ◌<◌, ◌≤◌, Bool, true, false, List, length, get_or, take, set, ℤ, pos, nat_abs, sym, refl, ap, ◌∙◌, subst, inl, inr, ⊎_elim, arith}
 use Rattle.std.specs.List.{AllByRecursion as All}
 use Rattle.std.proofs.ByRecursion.{All-get_or}
-use Rattle.std.proofs.lemmas.List.{length-set, set-set, set-get_or, get_or-set_same, get_or-set_other}
-use Rattle.std.proofs.lemmas.Bool.{cases_eq, both_ways}
+use Rattle.std.proofs.lemmas.List.{length-set, get_or-set_other}
+use Rattle.std.proofs.lemmas.Bool.{both_ways}
 use Rattle.pool.specs.Records.{Literal}
 use Rattle.engine.specs.Truth.{literal, clause, chain}
-use Rattle.propagation.specs.Rows.{at, Shaped, False, Agrees, AgreesOn, Refuted, Blocked, opens, back}
-use Rattle.propagation.specs.Steps.{Silent, Forced, Ready, Noted, Grown, Traced}
-use Rattle.propagation.proofs.Growing.{zero_from_abs, agrees_set, agrees_unset, opens_pos, noted_assign, noted_trail}
+use Rattle.propagation.specs.Rows.{at, Shaped, False, Agrees, Refuted, Blocked, back}
+use Rattle.propagation.specs.Steps.{Silent, Forced, Ready, Grown, Traced}
+use Rattle.propagation.proofs.Growing.{agrees_set, agrees_unset, noted_assign, noted_trail}
 use Rattle.propagation.proofs.Heard.{holding_stays, forced_heard}
-use Rattle.propagation.proofs.Blocks.{literal_false, clause_false, clause_forced, blocked_unmarked}
+use Rattle.propagation.proofs.Blocks.{literal_false, clause_false, clause_forced}
 
 pub grown_start : (s : ℕ) (cs : List (List ℤ)) (row : List ℤ) (trail : List ℕ) (mark : ℕ) (marks : List Bool) → Ready s row trail mark marks → Grown cs row trail mark row trail mark
 grown_start s cs row trail mark marks ready =

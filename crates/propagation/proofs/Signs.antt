@@ -1,5 +1,5 @@
 -- Signed words that are compared by their bits. Assumes nothing.
-use Rattle.std.proofs.Common.{◌≡◌, ℤ, pos, nat_abs, sym, refl, ap, ◌∙◌, w32, SFits, to_z, of_z}
+use Rattle.std.proofs.Common.{◌≡◌, ℤ, nat_abs, sym, ap, ◌∙◌, w32, SFits, to_z, of_z}
 use Rattle.std.proofs.lemmas.Int.{to_z-of_z}
 use Rattle.propagation.proofs.Growing.{zero_from_abs}
 

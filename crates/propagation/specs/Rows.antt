@@ -1,6 +1,6 @@
 -- Values of some of the signals, in a row of words: 0 for an open signal, else its number or the opposite. Assumes nothing.
 -- For example, the row -1 0 3 has signal 1 false, signal 2 open and signal 3 true.
-use Rattle.std.specs.Prelude.{◌≡◌, ℕ, zero, suc, ◌+◌, ◌-◌, ◌<◌, ◌≤◌, Bool, true, false, cond, ◌⊎◌, List, [], ◌∷◌, length, ℤ, pos, negsuc, ◌==◌, ◌≢◌, slice_index, slice_index_or, slice_set, unsigned_abs}
+use Rattle.std.specs.Prelude.{◌≡◌, ℕ, zero, suc, ◌+◌, ◌-◌, ◌<◌, Bool, true, false, cond, ◌⊎◌, List, [], ◌∷◌, length, ℤ, pos, ◌==◌, ◌≢◌, slice_index, slice_index_or, slice_set, unsigned_abs}
 use Rattle.engine.specs.Truth.{literal, chain}
 
 -- the word of the signal after i

@@ -1,5 +1,5 @@
 -- What a record, a row of values and propagation come to. Assumes nothing.
-use Rattle.std.specs.Prelude.{◌≡◌, ℕ, ◌+◌, ◌-◌, ◌<◌, ◌≤◌, Bool, true, false, ◌⊎◌, List, length, take, ℤ, pos, Some, None, Option, ◌≢◌, slice_index, slice_index_or, unsigned_abs}
+use Rattle.std.specs.Prelude.{◌≡◌, ℕ, ◌+◌, ◌-◌, ◌<◌, ◌≤◌, Bool, true, ◌⊎◌, List, length, take, ℤ, pos, Some, None, Option, ◌≢◌, slice_index, slice_index_or, unsigned_abs}
 use Rattle.std.specs.List.{AllByRecursion as All}
 use Rattle.pool.specs.Records.{Literal}
 use Rattle.engine.specs.Truth.{chain}

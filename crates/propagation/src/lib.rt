@@ -2,6 +2,7 @@
 // following records with one open number, and finding out what a clash rests on.
 // Internal: its functions ask of their callers what the branching engine knows.
 #![tactic(auto)]
+
 mod conflict;
 mod status;
 mod units;

@@ -1,10 +1,10 @@
 -- Variables that may be bound one after another: declared, not bound before, and no two the same.
-use Rattle.std.proofs.Common.{◌≡◌, ℕ, zero, suc, ◌+◌, ◌<◌, ◌≤◌, Bool, true, false, cond, not, ◌||◌, T, eqb, ltb, ◌≢◌, ◌⊎◌, List, [], ◌∷◌, ◌++◌, length, get_or, set, Ok, Err, Result, sym, refl, ap, ◌∙◌, subst, inl, inr, ⊎_elim, arith, length-set}
+use Rattle.std.proofs.Common.{◌≡◌, ℕ, ◌<◌, ◌≤◌, Bool, true, false, cond, not, ◌||◌, T, eqb, ltb, ◌≢◌, List, [], ◌∷◌, ◌++◌, length, get_or, set, Ok, Err, sym, refl, ap, ◌∙◌, subst, arith, length-set}
 use Rattle.std.proofs.lemmas.List.{get_or-set_same, get_or-set_other}
-use Rattle.std.proofs.lemmas.Bool.{cond-true, cond-false, cases_eq, cases_Bool, eqb-false, ltb-false, ne_eqb, eq-eqb, le-ltb, or_parts, or_from}
+use Rattle.std.proofs.lemmas.Bool.{cond-false, eqb-false, ltb-false, ne_eqb, le-ltb, or_parts, or_from}
 use Rattle.formula.specs.Lists.{elem, All}
 use Rattle.formula.specs.Built.{Built, binding, bind_to}
-use Rattle.formula.proofs.Tests.{nor, nor_l, nor_r, is_false, dec}
+use Rattle.formula.proofs.Tests.{nor, nor_l, nor_r, is_false}
 use Rattle.reader.specs.Grammar.{Distinct}
 use Rattle.reader.specs.Taking.{Binds}
 use Rattle.reader.proofs.Traced.{no_fault}

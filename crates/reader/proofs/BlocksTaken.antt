@@ -1,16 +1,16 @@
 -- Blocks are taken one after another exactly when they alternate, none is empty, there are at most 32, and their variables are free.
-use Rattle.std.proofs.Common.{◌≡◌, ℕ, zero, suc, ◌+◌, ◌%◌, ◌<◌, ◌≤◌, Bool, true, false, cond, not, ◌&&◌, ◌||◌, T, eqb, ltb, ◌⊎◌, List, [], ◌∷◌, ◌++◌, length, get_or, Some, None, Option, sym, refl, ap, ◌∙◌, subst, ap₂, inl, inr, ⊎_elim, add-zero, add-one, arith}
-use Rattle.std.proofs.lemmas.Bool.{cond-true, cond-false, cases_eq, cases_Bool, eqb-true, eqb-false, ltb-true, lt-ltb, ne_eqb, eq-eqb, and_parts, and_from, or_cases, or_left, or_right, not-true, not_from_false, both_ways}
+use Rattle.std.proofs.Common.{◌≡◌, ℕ, suc, ◌+◌, ◌%◌, ◌<◌, ◌≤◌, Bool, true, false, cond, not, ◌&&◌, ◌||◌, eqb, ltb, ◌⊎◌, List, [], ◌∷◌, length, get_or, Some, None, Option, sym, refl, ap, ◌∙◌, subst, ap₂, inl, inr, ⊎_elim, add-zero, add-one, arith}
+use Rattle.std.proofs.lemmas.Bool.{cond-true, cond-false, cases_eq, eqb-true, eqb-false, ltb-true, lt-ltb, ne_eqb, eq-eqb, and_parts, and_from, or_cases, or_left, or_right, not-true, not_from_false, both_ways}
 use Rattle.formula.specs.declared.side.Side.{Side}
 use Rattle.formula.specs.declared.side.Side.TheVariants.{Ours, Device}
-use Rattle.formula.specs.Lists.{elem, keep, each, from, All}
+use Rattle.formula.specs.Lists.{elem, keep, from, All}
 use Rattle.formula.specs.Game.{other}
 use Rattle.formula.specs.Sides.{side_at, same_side}
 use Rattle.formula.specs.Found.{variables_of}
 use Rattle.formula.specs.Built.{Built, started, may_start, empty_level, last_side}
 use Rattle.formula.proofs.Looked.{elem_kept}
 use Rattle.reader.specs.Grammar.{Block, all_variables, ascending}
-use Rattle.reader.specs.Taking.{Binds, TakesBlocks}
+use Rattle.reader.specs.Taking.{TakesBlocks}
 use Rattle.reader.proofs.Bindings.{Free, set_all, length_set_all, free_split, free_join, binds_to, binds_free, free_binds}
 use Rattle.reader.proofs.Leveling.{set_all_le, bound_to, level_is}
 

@@ -1,5 +1,5 @@
 -- Clauses are taken exactly when each literal's variable is bound and there are at most 4,096 literals.
-use Rattle.std.proofs.Common.{◌≡◌, ℕ, zero, suc, ◌+◌, ◌<◌, ◌≤◌, Bool, true, false, cond, eqb, ltb, leb, List, [], ◌∷◌, ◌++◌, length, get_or, ℤ, nat_abs, Ok, Err, sym, refl, ap, ◌∙◌, subst, ap₂, append_assoc, append-nil, add-zero, arith}
+use Rattle.std.proofs.Common.{◌≡◌, ℕ, suc, ◌+◌, ◌<◌, ◌≤◌, Bool, true, false, cond, eqb, ltb, leb, List, [], ◌∷◌, ◌++◌, length, get_or, ℤ, nat_abs, Ok, Err, sym, refl, ap, ◌∙◌, subst, ap₂, append_assoc, append-nil, add-zero, arith}
 use Rattle.std.proofs.lemmas.Bool.{cond-false, eqb-false, ltb-false, leb-false, ne_eqb, le-ltb, lt-leb}
 use Rattle.formula.specs.Lists.{All}
 use Rattle.formula.specs.Game.{Clauses}

@@ -1,12 +1,11 @@
 -- What is read as a formula begins with a header.
-use Rattle.std.proofs.Common.{◌≡◌, ℕ, suc, ◌<◌, ◌≤◌, Bool, true, false, cond, ◌&&◌, eqb, ltb, List, [], ◌∷◌, length, get_or, ℤ, pos, negsuc, Ok, Err, codes, Result, sym, refl, ap, ◌∙◌, subst, arith}
+use Rattle.std.proofs.Common.{◌≡◌, ℕ, ◌≤◌, Bool, true, false, cond, ◌&&◌, eqb, ltb, List, [], ◌∷◌, length, ℤ, pos, negsuc, Ok, Err, codes, Result, sym, refl, ap, ◌∙◌, subst, arith}
 use Rattle.std.proofs.lemmas.Bool.{and_parts, eqb-true}
 use Rattle.std.proofs.lemmas.Bool.Decides.{nat_tests}
 use Rattle.formula.specs.Game.{Qbf}
 use Rattle.formula.specs.Built.{blank}
-use Rattle.reader.specs.declared.faults.TextFault.{TextFault}
 use Rattle.reader.specs.declared.faults.TextFault.TheVariants.{NoHeader, BadCount}
-use Rattle.reader.specs.Words.{Word, said_of, rest}
+use Rattle.reader.specs.Words.{Word, said_of}
 use Rattle.reader.specs.Text.{between, and_then, reading, p_due, is_cnf, cnf_due, counted, count_due, headed}
 use Rattle.reader.specs.Grammar.{Numeral}
 use Rattle.reader.proofs.Spacing.{bytes_of}

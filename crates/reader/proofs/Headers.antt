@@ -1,11 +1,11 @@
 -- The header in front, and the step from the blocks to the clauses.
-use Rattle.std.proofs.Common.{◌≡◌, ℕ, suc, ◌<◌, ◌≤◌, true, false, cond, ltb, List, [], ◌∷◌, length, ℤ, pos, None, Ok, codes, sym, refl, ap, ◌∙◌, subst, arith}
+use Rattle.std.proofs.Common.{◌≡◌, ℕ, ◌≤◌, false, List, [], ◌∷◌, ℤ, pos, None, Ok, codes, sym, refl, ap, ◌∙◌, subst, arith}
 use Rattle.std.proofs.lemmas.Bool.{cond-false, le-ltb}
 use Rattle.formula.specs.Game.{Clauses}
 use Rattle.formula.specs.Built.{Built, blank, last_side}
-use Rattle.reader.specs.Words.{Word, said_of, number, place_of}
-use Rattle.reader.specs.Text.{between, clauses, and_then, block_side, between_step, clauses_step, of_device, reading, p_due, cnf_due, counted, count_due, headed}
-use Rattle.reader.specs.Grammar.{Numeral, Listed, ClauseWords}
+use Rattle.reader.specs.Words.{Word, said_of}
+use Rattle.reader.specs.Text.{between, clauses, and_then, block_side, between_step, of_device, reading, p_due, cnf_due, count_due, headed}
+use Rattle.reader.specs.Grammar.{Numeral, ClauseWords}
 use Rattle.reader.proofs.Spacing.{bytes_of}
 use Rattle.reader.proofs.WordKinds.{said_number}
 

@@ -1,12 +1,12 @@
 -- The words of a text are those after its comments and blank lines.
-use Rattle.std.proofs.Common.{◌≡◌, ℕ, zero, suc, ◌+◌, ◌<◌, ◌≤◌, Bool, true, false, cond, not, ◌||◌, T, eqb, ◌⊎◌, List, [], ◌∷◌, ◌++◌, length, Some, None, Option, sym, refl, ap, ◌∙◌, subst, inl, inr, ⊎_elim, append_assoc, add-zero, arith}
+use Rattle.std.proofs.Common.{◌≡◌, ℕ, suc, ◌+◌, false, cond, not, T, eqb, ◌⊎◌, List, [], ◌∷◌, ◌++◌, length, Some, None, sym, refl, ap, ◌∙◌, subst, inl, inr, ⊎_elim, append_assoc, add-zero, arith}
 use Rattle.std.proofs.lemmas.List.{length-append}
 use Rattle.std.proofs.lemmas.Bool.{cond-true, cond-false, cond_both, cases_eq, eq-eqb, ne_eqb, not-true, not_from_false}
 use Rattle.formula.specs.Lists.{all}
 use Rattle.formula.proofs.Tests.{dec, is_true, both, and_l, and_r}
 use Rattle.reader.specs.declared.comments.Lead.{Lead}
 use Rattle.reader.specs.declared.comments.Lead.TheVariants.{Line, Blanks, Comment}
-use Rattle.reader.specs.Bytes.{blank, in_word}
+use Rattle.reader.specs.Bytes.{blank}
 use Rattle.reader.specs.Comments.{past, past_blank, go_on, words_from}
 use Rattle.reader.specs.Words.{Word, words}
 use Rattle.reader.specs.Grammar.{Preamble, none, comment, blank_line}

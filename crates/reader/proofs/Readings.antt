@@ -1,5 +1,5 @@
 -- How digits are read one after another. Assumes nothing.
-use Rattle.std.proofs.Common.{◌≡◌, ℕ, ◌+◌, ◌-◌, ◌*◌, ◌^◌, ◌<◌, ◌≤◌, Bool, true, false, cond, ◌||◌, eqb, ltb, List, [], ◌∷◌, length, get_or, drop, pos, ◌-ℤ◌, neg_ℤ, Some, None, sym, refl, ap, ◌∙◌, pow-suc, add-one, arith, lit<, w32, to_z, of_z}
+use Rattle.std.proofs.Common.{◌≡◌, ℕ, ◌+◌, ◌-◌, ◌*◌, ◌^◌, ◌<◌, ◌≤◌, true, false, List, length, get_or, drop, pos, ◌-ℤ◌, neg_ℤ, Some, None, ◌∙◌, pow-suc, add-one, arith, lit<, w32, to_z, of_z}
 use native.Mathlib.Nat.{pow-le-pow_right}
 use Rattle.std.proofs.lemmas.Int.{ints}
 use Rattle.std.specs.Option.{option_map}

@@ -1,5 +1,5 @@
 -- The words of bytes are the words that the bytes space out.
-use Rattle.std.proofs.Common.{◌≡◌, ℕ, zero, suc, ◌+◌, ◌<◌, ◌≤◌, Bool, true, false, cond, not, ◌&&◌, T, ◌⊎◌, List, [], ◌∷◌, ◌++◌, length, sym, refl, ap, ◌∙◌, subst, inl, inr, ⊎_elim, add-zero, arith}
+use Rattle.std.proofs.Common.{◌≡◌, ℕ, suc, ◌+◌, Bool, true, false, T, List, [], ◌∷◌, ◌++◌, length, sym, refl, ap, ◌∙◌, subst, add-zero, arith}
 use Rattle.std.proofs.lemmas.Bool.{cond-true, cond-false, cond_both, not-true, not_from_false}
 use Rattle.formula.specs.Lists.{all, each}
 use Rattle.formula.proofs.Tests.{is_true, both, and_l, and_r, clash}

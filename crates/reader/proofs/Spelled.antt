@@ -1,15 +1,14 @@
 -- Words that spell blocks and clauses which are taken are read so.
-use Rattle.std.proofs.Common.{◌≡◌, ℕ, suc, ◌<◌, ◌≤◌, Bool, true, false, cond, ◌||◌, eqb, ltb, ◌⊎◌, List, [], ◌∷◌, length, ℤ, pos, nat_abs, Some, None, Ok, Err, codes, Result, sym, refl, ap, ◌∙◌, subst, inl, inr, ⊎_elim, arith}
-use Rattle.std.proofs.lemmas.Bool.{cond-true, cond-false, ne_eqb, eq-eqb, le-ltb}
+use Rattle.std.proofs.Common.{◌≡◌, ℕ, suc, ◌<◌, true, false, List, [], ◌∷◌, length, ℤ, pos, nat_abs, Some, Ok, sym, refl, ap, ◌∙◌, subst, arith}
+use Rattle.std.proofs.lemmas.Bool.{cond-true, cond-false, ne_eqb}
 use Rattle.formula.specs.declared.side.Side.{Side}
 use Rattle.formula.specs.declared.side.Side.TheVariants.{Ours, Device}
 use Rattle.formula.specs.Lists.{each}
-use Rattle.formula.specs.Game.{Qbf, Clauses}
-use Rattle.formula.specs.Built.{Built, blank, may_start, started, binding, bind_to, adding, add_to, closed, empty_level, last_side, may_finish}
+use Rattle.formula.specs.Game.{Clauses}
+use Rattle.formula.specs.Built.{Built, may_start, started, binding, bind_to, adding, add_to, closed, empty_level, may_finish}
 use Rattle.formula.specs.Model.{qbf_of}
-use Rattle.reader.specs.declared.faults.TextFault.{TextFault}
-use Rattle.reader.specs.Words.{Word, Said, letter, number, said_of, place_of, first, rest}
-use Rattle.reader.specs.Text.{Place, between, in_block, clauses, and_then, due, block_side, bound_at, added_at, of_device, between_step, step, reading, headed, p_due, cnf_due, count_due}
+use Rattle.reader.specs.Words.{Word, said_of, rest}
+use Rattle.reader.specs.Text.{Place, between, in_block, clauses, and_then, block_side, bound_at, added_at, between_step, step, reading}
 use Rattle.reader.specs.Grammar.{Numeral, Listed, Block, letter_of, Blocks, ClauseWords}
 use Rattle.reader.specs.Taking.{Binds, TakesBlocks, Adds, TakesClauses}
 use Rattle.reader.proofs.Spacing.{bytes_of}

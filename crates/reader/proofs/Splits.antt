@@ -1,11 +1,11 @@
 -- The first word of a text is its longest front without a blank. Assumes nothing.
-use Rattle.std.proofs.Common.{◌≡◌, ℕ, suc, ◌+◌, ◌-◌, ◌<◌, ◌≤◌, Bool, true, false, cond, not, List, [], ◌∷◌, length, get_or, take, drop, sym, refl, ap, ◌∙◌, subst, ⊎_elim, add-zero, one-add, arith}
+use Rattle.std.proofs.Common.{◌≡◌, ℕ, suc, ◌+◌, ◌-◌, ◌<◌, ◌≤◌, Bool, true, false, List, [], ◌∷◌, length, get_or, take, drop, sym, refl, ap, ◌∙◌, subst, ⊎_elim, add-zero, one-add, arith}
 use Rattle.std.specs.List.{prefix_len}
 use Rattle.std.proofs.lemmas.List.{drop_more, drop-drop, drop_all}
 use Rattle.std.proofs.lemmas.List.Sums.{prefix_len-drop_yes}
 use Rattle.std.proofs.lemmas.Bool.{cases_lt, cond-true, cond-false, not_from_true, not_from_false}
 use Rattle.reader.specs.Bytes.{blank, in_word}
-use Rattle.reader.specs.Words.{Word, onto, joins, words, left_at, first, rest}
+use Rattle.reader.specs.Words.{Word, onto, joins, words, left_at}
 
 over : (n k : ℕ) → n + suc k ≡ suc n + k
 over n k = omega arith

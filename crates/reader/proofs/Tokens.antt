@@ -1,10 +1,10 @@
 -- Reading goes by the next token and the words after it.
-use Rattle.std.proofs.Common.{◌≡◌, ℕ, suc, ◌<◌, Bool, true, false, cond, ◌&&◌, eqb, List, [], ◌∷◌, length, get_or, ℤ, nat_abs, Some, None, Ok, Err, Option, Result, sym, refl, ap, ◌∙◌, subst, arith}
+use Rattle.std.proofs.Common.{◌≡◌, ℕ, suc, ◌<◌, Bool, true, false, cond, ◌&&◌, eqb, List, [], ◌∷◌, length, get_or, ℤ, nat_abs, Some, None, Ok, Option, Result, sym, refl, ap, ◌∙◌, arith}
 use Rattle.formula.specs.Game.{Qbf}
 use Rattle.formula.specs.Built.{Built}
 use Rattle.reader.specs.declared.faults.TextFault.{TextFault}
 use Rattle.reader.specs.Bytes.{lower, number_of}
-use Rattle.reader.specs.Words.{Word, Said, letter, number, other, end, said_of, place_of, by_number, first, rest}
+use Rattle.reader.specs.Words.{Word, Said, letter, number, other, end, place_of, by_number, first, rest}
 use Rattle.std.proofs.lemmas.Bool.{cond-true, eq-eqb}
 use Rattle.formula.specs.Built.{closed, adding}
 use Rattle.reader.specs.Text.{Place, clauses, and_then, due, clause_step, added_at, step, at_end, reading}

@@ -1,5 +1,5 @@
 -- What is read as a formula is spelled by its words, block by block and clause by clause, and taken.
-use Rattle.std.proofs.Common.{◌≡◌, ℕ, zero, suc, ◌<◌, ◌≤◌, Bool, true, false, cond, ◌||◌, eqb, ltb, leb, ◌⊎◌, List, [], ◌∷◌, length, get_or, ℤ, pos, negsuc, nat_abs, Some, None, Ok, Err, Option, Result, sym, refl, ap, ◌∙◌, subst, inl, inr, ⊎_elim, arith}
+use Rattle.std.proofs.Common.{◌≡◌, ℕ, zero, suc, ◌<◌, Bool, true, false, cond, ◌||◌, eqb, ltb, leb, ◌⊎◌, List, [], ◌∷◌, length, get_or, ℤ, pos, negsuc, nat_abs, Some, None, Ok, Err, Option, Result, sym, refl, ap, ◌∙◌, subst, inl, inr, ⊎_elim, arith}
 use Rattle.std.proofs.lemmas.Bool.{cond-true, cond-false, cond_both, cases_eq, ne_eqb, eq-eqb}
 use Rattle.formula.specs.declared.side.Side.{Side}
 use Rattle.formula.specs.declared.side.Side.TheVariants.{Ours, Device}
@@ -17,9 +17,9 @@ use Rattle.formula.specs.declared.faults.BindFault.TheVariants.{NoVariable, Boun
 use Rattle.formula.specs.declared.faults.LiteralFault.{LiteralFault}
 use Rattle.formula.specs.declared.faults.LiteralFault.TheVariants.{OutOfRange, Unbound, TooMany}
 use Rattle.reader.specs.Words.{Word, Said, letter, number, other, end, said_of, place_of}
-use Rattle.reader.specs.Text.{Place, between, in_block, clauses, and_then, due, block_side, by_small_letter, bound_at, added_at, variable_step, block_step, clause_step, clauses_step, after_device, of_device, between_step, step, at_end_of, reading}
+use Rattle.reader.specs.Text.{Place, between, in_block, clauses, and_then, block_side, by_small_letter, bound_at, added_at, variable_step, block_step, clause_step, clauses_step, after_device, of_device, between_step, step, at_end_of, reading}
 use Rattle.reader.specs.Grammar.{Numeral, Listed, Block, letter_of, Blocks, ClauseWords}
-use Rattle.reader.specs.Taking.{Binds, TakesBlocks, Adds, TakesClauses}
+use Rattle.reader.specs.Taking.{Binds, TakesBlocks, TakesClauses}
 use Rattle.reader.proofs.Spacing.{bytes_of}
 use Rattle.reader.proofs.WordKinds.{Kind, kind, a_letter, a_number, another}
 

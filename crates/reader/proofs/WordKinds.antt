@@ -1,10 +1,10 @@
 -- What a word is as a token, by its bytes.
-use Rattle.std.proofs.Common.{◌≡◌, ℕ, suc, ◌<◌, ◌≤◌, Bool, true, false, cond, ◌&&◌, eqb, leb, ◌⊎◌, List, [], ◌∷◌, length, get_or, ℤ, pos, Some, None, Option, sym, refl, ap, ◌∙◌, subst, inl, inr, ⊎_elim, arith}
+use Rattle.std.proofs.Common.{◌≡◌, ℕ, Bool, true, false, ◌&&◌, eqb, List, [], ◌∷◌, length, get_or, ℤ, pos, Some, None, Option, refl, ap, ◌∙◌, arith}
 use Rattle.std.specs.Option.{option_map}
-use Rattle.std.proofs.lemmas.Bool.{cond-true, cond-false, cond_both, and_parts, and_left, and_right, ne_eqb, eqb-true}
+use Rattle.std.proofs.lemmas.Bool.{cond-true, cond-false, cond_both, and_parts, eqb-true}
 use Rattle.std.proofs.lemmas.Bool.Decides.{nat_tests}
-use Rattle.reader.specs.Bytes.{lower, digit, plain, read_on, number_of}
-use Rattle.reader.specs.Words.{Word, Said, letter, number, other, said_of, by_number}
+use Rattle.reader.specs.Bytes.{lower, digit, number_of}
+use Rattle.reader.specs.Words.{Word, letter, number, other, said_of, by_number}
 
 -- one small letter is no number
 letter_digit : (b : ℕ) → lower b ≡ true → digit b ≡ false

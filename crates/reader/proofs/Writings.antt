@@ -1,6 +1,6 @@
 -- A formula is read exactly when the text writes it.
-use Rattle.std.proofs.Common.{◌≡◌, ℕ, zero, suc, ◌+◌, ◌<◌, ◌≤◌, Bool, true, false, cond, not, ◌&&◌, ◌||◌, T, eqb, ltb, ◌⊎◌, ◌↔◌, List, [], ◌∷◌, ◌++◌, length, get_or, replicate, ℤ, pos, nat_abs, Some, None, Ok, Err, codes, Option, sym, refl, ap, ◌∙◌, subst, inl, inr, ⊎_elim, arith}
-use Rattle.std.proofs.lemmas.Bool.{cond-true, cond-false, cases_lt, eqb-true, eq-eqb, ne_eqb, ltb-false, le-ltb, lt-ltb, and_parts, and_from, or_cases, or_left, or_right, not_from_false}
+use Rattle.std.proofs.Common.{◌≡◌, ℕ, suc, ◌+◌, ◌<◌, ◌≤◌, Bool, true, false, cond, not, ◌&&◌, T, eqb, ◌↔◌, List, [], ◌∷◌, ◌++◌, length, get_or, pos, nat_abs, Some, None, Ok, Err, sym, refl, ap, ◌∙◌, subst, ⊎_elim, arith}
+use Rattle.std.proofs.lemmas.Bool.{cond-true, cond-false, cases_lt, eqb-true, eq-eqb, ne_eqb, le-ltb, lt-ltb, and_parts, and_from, or_cases, or_left, or_right, not_from_false}
 use Rattle.formula.specs.declared.side.Side.{Side}
 use Rattle.formula.specs.declared.side.Side.TheVariants.{Ours, Device}
 use Rattle.formula.specs.Lists.{elem, each, from, All}
@@ -18,7 +18,7 @@ use Rattle.reader.specs.declared.comments.Lead.{Lead}
 use Rattle.reader.specs.declared.comments.Lead.TheVariants.{Line, Blanks, Comment}
 use Rattle.reader.specs.Comments.{past, words_from, text_words}
 use Rattle.reader.specs.Words.{Word, words}
-use Rattle.reader.specs.Text.{between, clauses, reading, of_device, headed, reads}
+use Rattle.reader.specs.Text.{between, of_device, headed, reads}
 use Rattle.reader.specs.Grammar.{Says, Spaced, Spells, Writes, Blocks, ClauseWords, Numeral}
 use Rattle.reader.specs.declared.faults.WordFault.TheVariants.{TooLong}
 use Rattle.reader.specs.declared.faults.TextFault.TheVariants.{Word as Fault}
@@ -29,7 +29,7 @@ use Rattle.reader.proofs.Spelled.{reads_blocks, reads_clauses}
 use Rattle.reader.proofs.Headers.{enters_clauses, reads_header}
 use Rattle.reader.proofs.Traced.{no_fault, traced, Whole, Tail}
 use Rattle.reader.proofs.HeaderTraced.{Headed, header_traced}
-use Rattle.reader.proofs.Bindings.{Free, free_distinct, distinct_free}
+use Rattle.reader.proofs.Bindings.{free_distinct, distinct_free}
 use Rattle.reader.proofs.Leveling.{bound_to, not_bound, is_bound, levels_are}
 use Rattle.reader.proofs.BlocksTaken.{After, last_after, first_after, Took, took, takes}
 use Rattle.reader.proofs.ClausesTaken.{OfBound, clauses_to, clauses_taken, takes_clauses}

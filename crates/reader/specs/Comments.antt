@@ -1,5 +1,5 @@
 -- Comments: before the first word, a line whose first byte is c. A line ends with its line feed.
-use Rattle.std.specs.Prelude.{ℕ, suc, Bool, cond, List, [], ◌∷◌, Some, None, Option, ◌==◌}
+use Rattle.std.specs.Prelude.{ℕ, suc, cond, List, [], ◌∷◌, Some, None, Option, ◌==◌}
 use Rattle.reader.specs.declared.comments.Lead.{Lead}
 use Rattle.reader.specs.declared.comments.Lead.TheVariants.{Line, Blanks, Comment}
 use Rattle.reader.specs.Bytes.{blank}

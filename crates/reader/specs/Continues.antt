@@ -1,6 +1,5 @@
 -- What a part of the reader has done: reading from where it began comes to what reading from where it stopped comes to, or it found the fault.
 use Rattle.std.specs.Prelude.{◌≡◌, ℕ, List, Ok, Err, Result}
-use Rattle.formula.specs.Game.{Qbf}
 use Rattle.formula.specs.Built.{Built}
 use Rattle.reader.specs.declared.faults.TextFault.{TextFault}
 use Rattle.reader.specs.Words.{Word}

@@ -1,7 +1,7 @@
 -- The number, the offset and the layer of each fault of a text.
 use Rattle.std.specs.Prelude.{ℕ}
 use Rattle.reader.specs.declared.faults.Layer.{Layer}
-use Rattle.reader.specs.declared.faults.Layer.TheVariants.{Words, Text, Game}
+use Rattle.reader.specs.declared.faults.Layer.TheVariants.{Words, Text}
 use Rattle.reader.specs.declared.faults.WordFault.{WordFault}
 use Rattle.reader.specs.declared.faults.WordFault.TheVariants.{TooLong, NoNumber}
 use Rattle.reader.specs.declared.faults.TextFault.{TextFault}

@@ -1,5 +1,5 @@
 -- The texts that write a formula, as a relation: how a text lays out words, how words spell blocks and clauses, and what these must meet.
-use Rattle.std.specs.Prelude.{◌≡◌, ℕ, zero, ◌<◌, ◌≤◌, Bool, true, false, not, T, ◌⊎◌, List, [], ◌∷◌, ◌++◌, length, ℤ, pos, Some, codes, ◌==◌, ◌≢◌, unsigned_abs}
+use Rattle.std.specs.Prelude.{◌≡◌, ℕ, ◌<◌, ◌≤◌, not, T, List, [], ◌∷◌, ◌++◌, length, ℤ, pos, Some, codes, ◌==◌, ◌≢◌, unsigned_abs}
 use Rattle.formula.specs.declared.side.Side.{Side}
 use Rattle.formula.specs.declared.side.Side.TheVariants.{Ours, Device}
 use Rattle.formula.specs.Lists.{all, keep, each, elem, from, All}

@@ -10,7 +10,6 @@ use Rattle.formula.specs.Game.{Qbf}
 use Rattle.formula.specs.Sides.{same_side}
 use Rattle.formula.specs.Built.{Built, blank, empty_level, last_side, may_start, started, binding, adding, closed, may_finish}
 use Rattle.formula.specs.Model.{qbf_of}
-use Rattle.reader.specs.declared.faults.WordFault.{WordFault}
 use Rattle.reader.specs.declared.faults.WordFault.TheVariants.{TooLong, NoNumber}
 use Rattle.reader.specs.declared.faults.TextFault.{TextFault}
 use Rattle.reader.specs.declared.faults.TextFault.TheVariants.{Word, NoHeader, BadCount, BadBlock, LastBlockDevice, WordAfterEnd, TooManyLiterals}

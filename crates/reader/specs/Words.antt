@@ -1,5 +1,5 @@
 -- A text as a list of words with their places, and the tokens that they are.
-use Rattle.std.specs.Prelude.{◌≡◌, ℕ, suc, ◌+◌, ◌-◌, ◌<◌, ◌≤◌, Bool, true, false, cond, ◌&&◌, List, [], ◌∷◌, length, drop, ℤ, Some, None, Option, ◌==◌, slice_index, slice_range}
+use Rattle.std.specs.Prelude.{◌≡◌, ℕ, suc, ◌<◌, ◌≤◌, cond, ◌&&◌, List, [], ◌∷◌, length, drop, ℤ, Some, None, Option, ◌==◌, slice_index, slice_range}
 use Rattle.reader.specs.declared.words.Token.{Token}
 use Rattle.reader.specs.declared.words.Token.TheVariants.{Letter, Number, Other, End}
 use Rattle.reader.specs.Bytes.{blank, lower, number_of}

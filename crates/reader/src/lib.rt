@@ -1,5 +1,6 @@
 // Reads a formula from a text.
 #![tactic(auto)]
+
 mod blocks;
 mod bytes;
 mod clauses;

@@ -1,5 +1,5 @@
 -- How chains grow; the order of their records; plays as one list; entries by sets.
-use Rattle.std.proofs.Common.{◌≡◌, ℕ, ◌+◌, ◌<◌, ◌≤◌, Bool, true, false, not, ◌||◌, T, leb, List, [], ◌∷◌, ◌++◌, length, get_or, set, ℤ, sym, refl, ap, ◌∙◌, subst, ap₂, inl, inr, ⊎_elim, arith, le→leb, leb→le}
+use Rattle.std.proofs.Common.{◌≡◌, ℕ, ◌<◌, ◌≤◌, Bool, true, false, not, ◌||◌, T, leb, List, [], ◌∷◌, ◌++◌, length, get_or, ℤ, sym, refl, ap, ◌∙◌, subst, ap₂, inl, inr, ⊎_elim, arith, le→leb, leb→le}
 use Rattle.formula.specs.Game.{same, has, Values, Clauses, Play, hits, hit}
 use Rattle.std.proofs.lemmas.List.{get_or_past}
 use Rattle.formula.specs.Lists.{any, In, elem, below}

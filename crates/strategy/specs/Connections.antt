@@ -1,5 +1,5 @@
 -- What ties the theory to code: plays as one list, numbers of records, levels by places. Each is the contract of a function in src/theorems.
-use Rattle.std.specs.Prelude.{◌≡◌, ℕ, suc, ◌^◌, ◌<◌, Bool, true, T, ◌↔◌, List, [], length, set, ℤ, slice_index_or}
+use Rattle.std.specs.Prelude.{◌≡◌, ℕ, suc, ◌^◌, ◌<◌, Bool, true, T, ◌↔◌, List, [], length, ℤ, slice_index_or}
 use Rattle.std.proofs.Math.Option.{none, some}
 use Rattle.formula.specs.Lists.{all, In, Any, elem}
 use Rattle.formula.specs.Game.{Qbf, choices, Clauses, Play, PlayOf, hits, hit}

@@ -1,5 +1,5 @@
 -- The formulas that are played: the last level is ours, no level is empty, and each level has variables from 1 to n, ascending.
-use Rattle.std.specs.Prelude.{ℕ, ◌+◌, ◌<◌, ◌≤◌, not, T, List, [], ◌∷◌, length}
+use Rattle.std.specs.Prelude.{ℕ, ◌<◌, ◌≤◌, not, T, List, [], ◌∷◌, length}
 use Rattle.formula.specs.Lists.{All, elem}
 use Rattle.formula.specs.Game.{Qbf}
 use Rattle.formula.specs.Model.{bound_in}

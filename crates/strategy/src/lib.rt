@@ -1,6 +1,7 @@
 // The mathematics under the game: entries, recorded plans, steps, verdicts and what check asks, over lists and numbers only.
 // There is no code here but the functions whose contracts are the theorems.
 #![tactic(auto)]
+
 mod theorems;
 
 pub use theorems::{

@@ -1,7 +1,7 @@
 -- A list of assumptions but for one of them. Assumes nothing.
-use Rattle.std.proofs.Common.{◌≡◌, ℕ, zero, suc, ◌<◌, ◌≤◌, List, [], ◌∷◌, ◌++◌, length, take, drop, ℤ, refl, ap, le_trans, arith}
+use Rattle.std.proofs.Common.{◌≡◌, ℕ, zero, suc, ◌<◌, List, [], ◌∷◌, ◌++◌, length, take, drop, ℤ, refl, ap, le_trans, arith}
 use Rattle.pool.specs.Records.{Literal}
-use Rattle.engine.specs.Meaning.{Asked, Proper, Clash, Part}
+use Rattle.engine.specs.Meaning.{Asked, Proper, Part}
 use Rattle.engine.specs.Meaning.Part.{none, keep, leave}
 use Rattle.engine.proofs.Parts.{part_same, part_length, part_every, clash_more}
 use Rattle.trimmer.specs.Trim.{assuming, without, Needed}

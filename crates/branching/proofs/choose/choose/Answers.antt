@@ -1,4 +1,4 @@
-use Rattle.std.proofs.Common.{◌≡◌, ℕ, ◌<◌, ◌≤◌, ◌⊎◌, List, ◌∷◌, length, ℤ, nat_abs, sym, refl, ap, ◌∙◌, subst, inl, inr, ⊎_elim, le_trans, arith, rules}
+use Rattle.std.proofs.Common.{◌≡◌, ℕ, ◌<◌, ◌⊎◌, length, nat_abs, sym, ◌∙◌, subst, inr, ⊎_elim, le_trans, arith}
 use Rattle.std.specs.List.{AllByRecursion as All}
 use Rattle.pool.specs.Chains.{records_of}
 use Rattle.propagation.specs.Rows.{at}

@@ -1,4 +1,4 @@
-use Rattle.std.proofs.Common.{◌≡◌, ℕ, ◌<◌, ◌≤◌, false, ◌⊎◌, length, nat_abs}
+use Rattle.std.proofs.Common.{◌≡◌, ℕ, ◌<◌, ◌≤◌, false, ◌⊎◌, nat_abs}
 use Rattle.propagation.specs.Rows.{at}
 use Rattle.branching.specs.Search.{sign}
 use Rattle.branching.proofs.choose.complete.Given as goal

@@ -1,8 +1,8 @@
-use Rattle.std.proofs.Common.{◌≡◌, ℕ, ◌-◌, ◌<◌, ◌≤◌, min, ◌⊎◌, length, get_or, ℤ, pos, nat_abs, sym, refl, ap, ◌∙◌, subst, inl, inr, ⊎_elim, le_trans, arith, w32, SFits, of_z, rules, below_more}
+use Rattle.std.proofs.Common.{◌≡◌, ◌-◌, ◌≤◌, min, length, get_or, pos, nat_abs, sym, refl, ap, ◌∙◌, inl, inr, le_trans, arith, w32, SFits, of_z, rules, below_more}
 use Rattle.std.proofs.ByRecursion.{All-get_or}
 use Rattle.std.proofs.lemmas.Int.{to_z-of_z}
 use Rattle.pool.specs.Records.{Literal}
-use Rattle.propagation.specs.Rows.{at, word_of}
+use Rattle.propagation.specs.Rows.{word_of}
 use Rattle.propagation.proofs.Signs.{same_from_bits, abs_from_bits, bits_from_abs}
 use Rattle.branching.proofs.Choosing.{found_more, found_lower, found_heard}
 use Rattle.branching.proofs.choose.lowest.Goals as goal

@@ -1,4 +1,4 @@
-use Rattle.std.proofs.Common.{◌≡◌, ℕ, ◌-◌, ◌<◌, ◌≤◌, length, get_or, pos, nat_abs}
+use Rattle.std.proofs.Common.{◌≡◌, ℕ, ◌-◌, ◌<◌, ◌≤◌, get_or, pos, nat_abs}
 use Rattle.propagation.specs.Rows.{word_of}
 use Rattle.branching.proofs.Choosing.{Found}
 use Rattle.branching.proofs.choose.lowest.Given as goal

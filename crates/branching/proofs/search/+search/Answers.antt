@@ -1,10 +1,9 @@
-use Rattle.std.proofs.Common.{◌≡◌, ℕ, ◌+◌, ◌-◌, ◌<◌, ◌≤◌, Bool, true, false, length, get_or, take, set, replicate, ℤ, pos, nat_abs, sym, refl, ap, ◌∙◌, subst, arith, rules}
+use Rattle.std.proofs.Common.{◌≡◌, ◌+◌, ◌-◌, ◌<◌, true, false, length, get_or, take, set, replicate, pos, refl, ap, ◌∙◌, arith, rules}
 use Rattle.std.proofs.lemmas.List.{length-set, length-replicate, set-set}
-use Rattle.pool.specs.Chains.{records_of, signals_of}
+use Rattle.pool.specs.Chains.{records_of}
 use Rattle.propagation.specs.Rows.{back, Blocked}
 use Rattle.branching.specs.Search.{sign}
-use Rattle.propagation.specs.Steps.{Ready, Stuck, Traced}
-use Rattle.branching.specs.Search.{Met}
+use Rattle.propagation.specs.Steps.{Ready}
 use Rattle.branching.proofs.Choosing.{met_completed}
 use Rattle.branching.proofs.Branches.{fork_from, front_again, branch_below, branch_room, branch_ready, branch_met_false, branch_met_true, branch_skip, branch_both, branch_traced, branch_stuck, reopened}
 use Rattle.branching.proofs.search.+search.Goals as goal

@@ -1,5 +1,5 @@
-use Rattle.std.proofs.Common.{◌≡◌, ◌≤◌, Bool, length, sym, ap, ◌∙◌, subst, arith, rules}
-use Rattle.pool.specs.Chains.{records_of, signals_of}
+use Rattle.std.proofs.Common.{◌≡◌, length, rules}
+use Rattle.pool.specs.Chains.{records_of}
 use Rattle.branching.proofs.Models.{solved_from}
 use Rattle.branching.proofs.solve.solve.Goals as goal
 

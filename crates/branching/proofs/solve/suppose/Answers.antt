@@ -1,14 +1,13 @@
-use Rattle.std.proofs.Common.{◌≡◌, ℕ, ◌+◌, ◌-◌, ◌<◌, ◌≤◌, Bool, true, false, ◌⊎◌, length, get_or, set, ℤ, pos, nat_abs, sym, refl, ap, ◌∙◌, subst, inl, inr, ⊎_elim, arith, w32, SFits, to_z, of_z, rules, below_more}
+use Rattle.std.proofs.Common.{◌≡◌, ℕ, ◌-◌, ◌≤◌, Bool, true, length, get_or, set, pos, nat_abs, sym, refl, ap, ◌∙◌, subst, inl, arith, w32, SFits, of_z, rules, below_more}
 use Rattle.std.proofs.ByRecursion.{All-get_or}
 use Rattle.std.proofs.lemmas.Int.{to_z-of_z}
 use Rattle.std.proofs.lemmas.List.{length-set, get_or-set_same}
-use Rattle.std.proofs.lemmas.Bool.{both_ways}
 use Rattle.pool.specs.Records.{Literal}
-use Rattle.engine.specs.Truth.{literal, each}
+use Rattle.engine.specs.Truth.{each}
 use Rattle.propagation.specs.Rows.{at, word_of, opens}
 use Rattle.branching.specs.Search.{used}
 use Rattle.propagation.proofs.Signs.{same_from_bits, abs_from_bits, bits_from_abs}
-use Rattle.propagation.proofs.Growing.{shaped_set, opens_set, opens_pos, agrees_set, agrees_unset}
+use Rattle.propagation.proofs.Growing.{shaped_set, opens_set, opens_pos, agrees_unset}
 use Rattle.branching.proofs.Supposing.{opens_zeros, zeros_at, agrees_true, each-from_at, source_set, source_more, apart_used}
 use Rattle.branching.proofs.solve.suppose.Goals as goal
 use Rattle.branching.proofs.solve.suppose.Goals.{then-value-eq0, else-value-eq0+else-value-x}

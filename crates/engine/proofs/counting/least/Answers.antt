@@ -1,11 +1,10 @@
-use Rattle.std.proofs.Common.{◌≡◌, ℕ, ◌^◌, ◌<◌, ◌≤◌, true, false, length, get_or, ℤ, pos, Some, sym, refl, ap, ◌∙◌, w32, SFits, rules, below_more}
-use Rattle.std.specs.List.{AllByRecursion as All}
+use Rattle.std.proofs.Common.{◌≡◌, ◌^◌, ◌<◌, ◌≤◌, true, false, get_or, pos, Some, sym, refl, ap, ◌∙◌, w32, SFits, rules, below_more}
 use Rattle.std.proofs.ByRecursion.{All-get_or}
 use Rattle.std.proofs.lemmas.Int.{to_z-of_z}
 use Rattle.std.proofs.lemmas.Bool.{both_ways}
 use Rattle.pool.specs.Records.{Literal}
 use Rattle.pool.specs.Chains.{records_of, signals_of}
-use Rattle.engine.specs.Truth.{literal, clause, each, chain}
+use Rattle.engine.specs.Truth.{literal, each, chain}
 use Rattle.engine.specs.Count.{numbered}
 use Rattle.engine.proofs.Counts.{least_same}
 use Rattle.engine.proofs.Truths.{each_more, each_fails, each_all, clause_more, clause_holds, clause_all, chain_more, chain_fails}

@@ -1,4 +1,4 @@
-use Rattle.std.proofs.Common.{◌≡◌, ℕ, ◌<◌, ◌≤◌, length, drop}
+use Rattle.std.proofs.Common.{◌≡◌, ℕ, ◌<◌, length, drop}
 use Rattle.pool.specs.Chains.{records_of, signals_of}
 use Rattle.engine.specs.Truth.{clause, each, chain}
 use Rattle.engine.specs.Meaning.{Meets}

@@ -1,4 +1,4 @@
-use Rattle.std.proofs.Common.{◌≡◌, ◌<◌, ◌≤◌, true, false, length, get_or, ℤ, pos, nat_abs, refl, ap, subst, arith, take_all, w32, SFits, to_z, of_z, rules}
+use Rattle.std.proofs.Common.{◌≡◌, get_or, pos, nat_abs, refl, subst, arith, take_all, w32, SFits, rules}
 use Rattle.std.specs.List.{AllByRecursion as All}
 use Rattle.std.proofs.ByRecursion.{All-more, All-get_or}
 use Rattle.std.proofs.lemmas.Int.{to_z-of_z, ints}

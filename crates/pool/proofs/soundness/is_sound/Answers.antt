@@ -1,7 +1,4 @@
-use Rattle.std.proofs.Common.{◌≡◌, ◌<◌, ◌≤◌, true, false, length, get_or, ℤ, pos, nat_abs, refl, ap, subst, le_trans, arith, w32, SFits, to_z, of_z, rules}
-use Rattle.std.proofs.lemmas.Int.{to_z-of_z, ints}
-use Rattle.pool.specs.Layout.{next_at}
-use Rattle.pool.specs.Records.{Linked, Whole}
+use Rattle.std.proofs.Common.{refl, le_trans, arith, rules}
 use Rattle.pool.proofs.Chains.{linked_step}
 use Rattle.pool.proofs.soundness.is_sound.Goals as goal
 

@@ -1,14 +1,13 @@
-use Rattle.std.proofs.Common.{◌≡◌, ℕ, ◌-◌, ◌<◌, ◌≤◌, true, false, ◌⊎◌, length, get_or, set, replicate, ℤ, pos, nat_abs, sym, refl, ap, ◌∙◌, subst, inl, inr, ⊎_elim, arith, w32, SFits, rules}
-use Rattle.std.specs.List.{AllByRecursion as All}
+use Rattle.std.proofs.Common.{◌≡◌, ◌-◌, true, false, length, get_or, set, replicate, pos, refl, ap, ◌∙◌, inl, inr, ⊎_elim, arith, w32, SFits, rules}
 use Rattle.std.proofs.ByRecursion.{All-weaker}
 use Rattle.std.proofs.lemmas.List.{length-set, get_or-replicate}
 use Rattle.std.proofs.lemmas.Int.{to_z-of_z}
 use Rattle.pool.specs.Records.{Literal}
 use Rattle.pool.specs.Chains.{records_of}
-use Rattle.propagation.specs.Rows.{at, Blocked}
+use Rattle.propagation.specs.Rows.{at}
 use Rattle.propagation.specs.Steps.{Forced}
 use Rattle.propagation.proofs.Growing.{back_less}
-use Rattle.propagation.proofs.Blocks.{shaped_unset, blocked_unmarked, blocked_forced, blocked_all}
+use Rattle.propagation.proofs.Blocks.{shaped_unset, blocked_unmarked, blocked_forced}
 use Rattle.propagation.proofs.conflict.explain.Goals as goal
 
 pub mark_signals-requires : goal.mark_signals-requires

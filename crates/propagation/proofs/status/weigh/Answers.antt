@@ -1,8 +1,8 @@
-use Rattle.std.proofs.Common.{◌≡◌, ℕ, ◌+◌, ◌-◌, ◌<◌, ◌≤◌, ◌⊎◌, length, get_or, ℤ, pos, nat_abs, sym, refl, ap, ◌∙◌, subst, inl, inr, ⊎_elim, arith, w32, SFits, to_z, of_z, rules, below_more}
+use Rattle.std.proofs.Common.{◌≡◌, length, get_or, pos, nat_abs, sym, refl, ap, ◌∙◌, inl, inr, ⊎_elim, arith, w32, SFits, of_z, rules, below_more}
 use Rattle.std.proofs.ByRecursion.{All-get_or}
 use Rattle.std.proofs.lemmas.Int.{to_z-of_z, ints}
 use Rattle.pool.specs.Records.{Literal}
-use Rattle.propagation.specs.Rows.{at, word_of, False}
+use Rattle.propagation.specs.Rows.{word_of}
 use Rattle.propagation.proofs.Signs.{same_from_bits, abs_from_bits, bits_from_abs}
 use Rattle.propagation.proofs.status.weigh.Goals as goal
 use Rattle.propagation.proofs.status.weigh.Goals.{then-value-eq0+else-open-ne0, else-value-eq0}

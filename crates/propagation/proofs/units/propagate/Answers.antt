@@ -1,4 +1,4 @@
-use Rattle.std.proofs.Common.{◌≡◌, ℕ, ◌+◌, ◌-◌, ◌<◌, ◌≤◌, Bool, true, false, List, length, get_or, set, ℤ, pos, nat_abs, sym, refl, ap, ◌∙◌, subst, inl, inr, arith, w32, SFits, rules}
+use Rattle.std.proofs.Common.{◌≡◌, ℕ, ◌+◌, ◌-◌, ◌<◌, ◌≤◌, Bool, true, List, length, set, ℤ, nat_abs, sym, ap, ◌∙◌, subst, inl, inr, arith, w32, SFits, rules}
 use Rattle.std.specs.List.{AllByRecursion as All}
 use Rattle.std.proofs.ByRecursion.{All-weaker}
 use Rattle.std.proofs.lemmas.List.{length-set}
@@ -8,7 +8,7 @@ use Rattle.pool.specs.Chains.{records_of}
 use Rattle.engine.specs.Truth.{clause, chain}
 use Rattle.engine.proofs.Truths.{chain_parts}
 use Rattle.propagation.specs.Rows.{Blocked}
-use Rattle.propagation.specs.Steps.{Grown, Alive, Silent}
+use Rattle.propagation.specs.Steps.{Alive, Silent}
 use Rattle.propagation.proofs.Growing.{opens_pos}
 use Rattle.propagation.proofs.Growth.{grown_forced, blocked_fails, traced_from}
 use Rattle.propagation.proofs.units.propagate.Goals as goal

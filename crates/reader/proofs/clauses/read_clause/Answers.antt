@@ -1,9 +1,8 @@
-use Rattle.std.proofs.Common.{◌≡◌, ℕ, ◌+◌, ◌<◌, true, cond, length, nat_abs, sym, ap, ◌∙◌, arith, rules}
+use Rattle.std.proofs.Common.{◌≡◌, ◌+◌, ◌<◌, true, cond, length, nat_abs, sym, ap, ◌∙◌, arith, rules}
 use Rattle.std.proofs.lemmas.List.{length_push}
-use Rattle.std.proofs.lemmas.Int.{ints}
 use Rattle.std.proofs.lemmas.Bool.{lt-ltb}
 use Rattle.formula.specs.Built.{closed}
-use Rattle.reader.specs.Words.{said, first, rest, left_at}
+use Rattle.reader.specs.Words.{said, first, left_at}
 use Rattle.reader.specs.Text.{clauses, reading}
 use Rattle.reader.specs.Left.{left, size, drawn}
 use Rattle.reader.proofs.Tokens.{clause_ends}

@@ -1,4 +1,4 @@
-use Rattle.std.proofs.Common.{◌≡◌, ℕ, ◌+◌, ◌-◌, length}
+use Rattle.std.proofs.Common.{◌≡◌, ◌+◌, ◌-◌, length}
 use Rattle.reader.specs.Text.{clauses}
 use Rattle.reader.specs.Left.{left, size, drawn}
 use Rattle.reader.specs.Continues.{Goes}

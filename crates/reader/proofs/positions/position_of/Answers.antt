@@ -1,4 +1,4 @@
-use Rattle.std.proofs.Common.{◌≡◌, ℕ, ◌+◌, ◌-◌, min, length, take, drop, sym, ap, ◌∙◌, arith, rules}
+use Rattle.std.proofs.Common.{◌≡◌, ◌+◌, ◌-◌, min, length, take, drop, sym, ap, ◌∙◌, arith, rules}
 use Rattle.reader.specs.Lines.{after}
 use Rattle.reader.proofs.Lining.{after_feed, after_byte, after_all, take_upto}
 use Rattle.reader.proofs.positions.position_of.Goals as goal

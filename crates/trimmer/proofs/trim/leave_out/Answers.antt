@@ -1,8 +1,7 @@
-use Rattle.std.proofs.Common.{◌≡◌, ◌+◌, ◌-◌, ◌<◌, ◌≤◌, ◌++◌, length, take, drop, sym, refl, ap, ◌∙◌, add-one, arith}
+use Rattle.std.proofs.Common.{◌≡◌, ◌+◌, ◌-◌, ◌≤◌, ◌++◌, length, take, drop, sym, ap, ◌∙◌, add-one, arith}
 use borrow.Rule.Slice.PartMut.{post_of}
 use Rattle.std.proofs.lemmas.List.{length-take, length-drop, length-append, take_at, take-take}
 use Rattle.std.proofs.lemmas.Slice.{take-put_mid, between_is}
-use Rattle.trimmer.specs.Trim.{without}
 use Rattle.trimmer.proofs.Without.{without_is}
 use Rattle.trimmer.proofs.trim.leave_out.Goals as goal
 

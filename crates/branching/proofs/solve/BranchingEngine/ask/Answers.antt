@@ -1,4 +1,4 @@
-use Rattle.std.proofs.Common.{◌≡◌, ◌≤◌, true, ◌++◌, length, drop, sym, refl, ap, ◌∙◌, subst, arith, rules}
+use Rattle.std.proofs.Common.{◌≡◌, true, ◌++◌, length, drop, sym, ap, ◌∙◌, subst, arith, rules}
 use Rattle.std.proofs.ByRecursion.{All-weaker}
 use Rattle.pool.specs.Records.{Literal}
 use Rattle.pool.specs.Chains.{records_of}

@@ -1,4 +1,4 @@
-use Rattle.std.proofs.Common.{◌≡◌, ℕ, ◌<◌, ◌≤◌, length, get_or, set, pos, nat_abs, sym, subst, arith, rules}
+use Rattle.std.proofs.Common.{◌<◌, ◌≤◌, length, get_or, pos, nat_abs, sym, subst, arith, rules}
 use Rattle.formula.proofs.Arrays.{written, lower_level_same}
 use Rattle.formula.proofs.draft.Draft.bind.Goals as goal
 

@@ -1,4 +1,4 @@
-use Rattle.std.proofs.Common.{ℕ, ◌<◌, ◌≤◌, [], refl, arith, lit≤}
+use Rattle.std.proofs.Common.{refl, arith, lit≤}
 use Rattle.formula.proofs.Zeros.{zeros_le, zeros_none}
 use Rattle.formula.proofs.draft.Draft.new.Goals as goal
 

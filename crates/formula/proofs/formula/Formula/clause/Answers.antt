@@ -1,4 +1,4 @@
-use Rattle.std.proofs.Common.{◌≡◌, ◌+◌, ◌-◌, ◌<◌, ◌≤◌, ◌⊎◌, length, get_or, take, drop, sym, refl, ap, ◌∙◌, subst, inl, inr, arith, rules}
+use Rattle.std.proofs.Common.{◌≡◌, ◌+◌, ◌-◌, ◌≤◌, length, get_or, take, drop, sym, refl, ap, ◌∙◌, inl, inr, arith, rules}
 use Rattle.formula.specs.Built.{clause_in}
 use Rattle.formula.specs.Model.{qbf}
 use Rattle.formula.proofs.Arrays.{count_clauses, ends_below}

@@ -1,4 +1,4 @@
-use Rattle.std.proofs.Common.{◌≡◌, ◌<◌, ltb, ◌⊎◌, sym, refl, ap, ◌∙◌, inl, inr, arith, rules}
+use Rattle.std.proofs.Common.{◌<◌, ltb, ◌⊎◌, sym, refl, ap, ◌∙◌, inl, inr}
 use Rattle.formula.specs.Lists.{keep}
 use Rattle.formula.specs.Found.{first_of, binds_at, variables_of}
 use Rattle.formula.specs.Model.{qbf}

@@ -1,5 +1,4 @@
-use Rattle.std.proofs.Common.{◌≡◌, ◌≤◌, true, length, sym, refl, subst}
-use Rattle.pool.specs.Tests.{is_linked}
+use Rattle.std.proofs.Common.{length, refl}
 use Rattle.pool.proofs.Chains.{linked_within}
 use Rattle.pool.proofs.Tested.{test_from_linked}
 use Rattle.pool.proofs.chain.Chain.new.Goals as goal

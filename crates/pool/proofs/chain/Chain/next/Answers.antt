@@ -1,6 +1,6 @@
-use Rattle.std.proofs.Common.{◌≡◌, ℕ, ◌<◌, ◌≤◌, ◌∷◌, length, sym, refl, ap, ◌∙◌, arith, rules}
+use Rattle.std.proofs.Common.{◌∷◌, length, sym, refl, ap, ◌∙◌, arith}
 use Rattle.pool.specs.Layout.{next_at}
-use Rattle.pool.specs.Records.{Linked, records}
+use Rattle.pool.specs.Records.{records}
 use Rattle.pool.proofs.Chains.{whole_at, rest_at, lies_at, records_step}
 use Rattle.pool.proofs.Tested.{linked_from_test, test_from_linked}
 use Rattle.pool.proofs.chain.Chain.next.Goals as goal

@@ -1,10 +1,10 @@
-use Rattle.std.proofs.Common.{◌≡◌, ℕ, suc, ◌+◌, ◌-◌, ◌<◌, ◌≤◌, true, false, List, ◌++◌, length, take, drop, ℤ, sym, refl, ap, ◌∙◌, subst, arith, rules, below_more}
-use Rattle.std.proofs.lemmas.List.{length-take, length-take-le, take_at}
+use Rattle.std.proofs.Common.{◌≡◌, ◌-◌, ◌≤◌, length, take, refl, ap, ◌∙◌, arith, rules, below_more}
+use Rattle.std.proofs.lemmas.List.{length-take-le, take_at}
 use Rattle.std.proofs.lemmas.Bool.{false≢true}
 use Rattle.engine.specs.Asking.{asked}
-use Rattle.engine.specs.Meaning.{clauses, Proper, Clash, Part}
+use Rattle.engine.specs.Meaning.{clauses, Clash, Part}
 use Rattle.engine.proofs.Parts.{part_same, part_trans}
-use Rattle.trimmer.specs.Trim.{assuming, without}
+use Rattle.trimmer.specs.Trim.{without}
 use Rattle.trimmer.proofs.Without.{part_without, needed_without, proper_part}
 use Rattle.trimmer.proofs.trim.Trimmer.trim.Goals as goal
 
