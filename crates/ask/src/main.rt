@@ -8,6 +8,7 @@
 //   ask           asks the question so far
 // The first line that is no command ends the program, with the line's number and what is wrong.
 #![tactic(auto)]
+
 use ask_words::numbers;
 use branching::Branching;
 use draft::Draft;

@@ -1,5 +1,5 @@
 -- Every call keeps what is known of a table; and so the law holds after any run.
-use Rattle.std.proofs.Common.{◌≡◌, ℕ, zero, suc, ◌+◌, ◌<◌, ◌≤◌, Bool, true, false, cond, eqb, ltb, List, [], ◌∷◌, length, get_or, set, replicate, ℤ, Some, None, Ok, Err, Option, Result, sym, refl, ap, ◌∙◌, subst, ⊎_elim, arith}
+use Rattle.std.proofs.Common.{◌≡◌, ℕ, zero, suc, ◌<◌, ◌≤◌, Bool, true, false, cond, eqb, ltb, List, [], ◌∷◌, length, get_or, set, replicate, ℤ, None, Ok, Err, Result, sym, refl, ap, ◌∙◌, subst, ⊎_elim, arith}
 use mathlib.Core.Option.{none, some}
 use mathlib.Core.Option.{Option as Maybe}
 use Rattle.std.proofs.lemmas.List.{get_or-set_same, get_or-set_other, length-set}
@@ -9,10 +9,8 @@ use Rattle.formula.specs.Lists.{All}
 use Rattle.formula.specs.declared.side.Side.{Side}
 use Rattle.reader.specs.Text.{reads}
 use Rattle.reader.specs.declared.faults.TextFault.{TextFault}
-use Rattle.strategy.specs.WellFormed.{WellFormed}
 use Rattle.strategy.specs.Steps.{State, playing, decided, opened, here, Reached}
-use Rattle.strategy.specs.Next.{Answer}
-use Rattle.strategy.specs.View.{GameView, Shows, AnswersView}
+use Rattle.strategy.specs.View.{Shows, AnswersView}
 use Rattle.strategy.specs.View.{stepped as steppedView}
 use Rattle.strategy.proofs.ViewGames.{view_follows}
 use Rattle.layout.specs.declared.game.Game.{Game}
@@ -20,7 +18,7 @@ use Rattle.layout.specs.Table.{Limits, Filled, blank, blank_game}
 use Rattle.layout.specs.Laying.{laid}
 use Rattle.layout.specs.Opening.{open_chains, words_needed}
 use Rattle.layout.specs.Opened.{new_levels, unused, opened_game}
-use Rattle.layout.specs.Viewed.{view_of, maybe, clauses_of}
+use Rattle.layout.specs.Viewed.{view_of, maybe}
 use Rattle.layout.proofs.Begun.{chains_some, length_put}
 use Rattle.rules.proofs.Noted.{length_clauses}
 use Rattle.game.specs.declared.faults.GameFault.{GameFault}
@@ -34,7 +32,7 @@ use Rattle.game.specs.Steps.{Played, StepGives}
 use Rattle.game.specs.Verdicts.{is_verdict_of, retiring}
 use Rattle.game.specs.Verdicts.{holds_after as holdsRetired, game_after as gameRetired}
 use Rattle.game.proofs.OpeningFits.{never_both, same_ok}
-use Rattle.calls.specs.Acts.{Act, open_text, step, move_at, check_for, retire, ask, Told, no_table, no_verdict, moved, checked, answered}
+use Rattle.calls.specs.Acts.{Act, open_text, retire, Told, no_table, no_verdict, moved, checked, answered}
 use Rattle.calls.specs.Acts.{opened as opened-so, stepped as stepped-so, retired as retired-so}
 use Rattle.calls.specs.Places.{Place, nowhere}
 use Rattle.calls.specs.Happening.{Happens, opens, steps, moves, moves_without, checks, retires, retires_without, asks, OpenedSo, side_said, taken}

@@ -1,19 +1,17 @@
 -- What is known of a table that holds a game of q after m steps: table and pool show a state that the theory's game of q reaches by m steps.
-use Rattle.std.proofs.Common.{◌≡◌, ℕ, zero, suc, ◌+◌, ◌-◌, ◌^◌, ◌<◌, ◌≤◌, Bool, true, false, ◌↔◌, List, [], ◌∷◌, length, get_or, take, ℤ, Some, None, Ok, Err, Decides, Option, Result, sym, refl, ap, ◌∙◌, subst, ap₂, zero-add, arith}
-use mathlib.Core.Option.{none, some}
-use mathlib.Core.Option.{Option as Maybe}
+use Rattle.std.proofs.Common.{◌≡◌, ℕ, zero, suc, ◌+◌, ◌-◌, ◌^◌, ◌<◌, ◌≤◌, Bool, true, ◌↔◌, List, [], ◌∷◌, length, get_or, take, ℤ, Some, None, Ok, Err, Option, Result, sym, refl, ap, ◌∙◌, subst, ap₂, zero-add, arith}
+use mathlib.Core.Option.{some}
 use Rattle.std.proofs.lemmas.Bool.{false≢true}
-use Rattle.formula.specs.Game.{other, Qbf, Clauses, Play, PlayOf}
-use Rattle.formula.specs.Lists.{All, each, from, below}
+use Rattle.formula.specs.Game.{other, Qbf, Clauses, PlayOf}
+use Rattle.formula.specs.Lists.{each, from}
 use Rattle.formula.specs.Plans.{CanWin}
 use Rattle.formula.specs.Truth.{truth}
 use Rattle.formula.specs.declared.side.Side.{Side}
 use Rattle.formula.specs.declared.side.Side.TheVariants.{Ours, Device}
-use Rattle.formula.proofs.Maps.{length-each}
-use Rattle.strategy.specs.Entries.{Entry, LevelState, variables_of}
-use Rattle.strategy.specs.RecordedPlan.{move, RecordedPlanWins, flat}
+use Rattle.strategy.specs.Entries.{LevelState, variables_of}
+use Rattle.strategy.specs.RecordedPlan.{move, RecordedPlanWins}
 use Rattle.strategy.specs.WellFormed.{WellFormed, bound}
-use Rattle.strategy.specs.Steps.{State, playing, decided, states_of, Reached}
+use Rattle.strategy.specs.Steps.{State, states_of, Reached}
 use Rattle.strategy.specs.Check.{LevelRecords, Check, EntriesOfLevel, level_variables, level_entries, records_of}
 use Rattle.strategy.specs.View.{LevelView, GameView, Shows, ShowsFront, shown_records}
 use Rattle.strategy.proofs.Proved.{check_implies_wins, levels_stay, steps_are_bounded, decides}
@@ -25,7 +23,6 @@ use Rattle.layout.specs.Table.{Limits, Filled, nought, level_of}
 use Rattle.layout.specs.Viewed.{view_level, maybe, view_of, clauses_of, signals_of}
 use Rattle.layout.specs.Shown.{variables_at, levels_of, entries_in}
 use Rattle.soundness.specs.Soundness.{SoundPool}
-use Rattle.plan.specs.NextMove.{is_level_of, next_move}
 use Rattle.plan.specs.MoveLaws.{all_entries_in}
 use Rattle.plan.proofs.Moving.{recorded}
 use Rattle.plan_check.specs.declared.faults.CheckFault.{CheckFault}

@@ -1,10 +1,9 @@
 -- What each call at a table does: just what the calls' own contracts say.
-use Rattle.std.specs.Prelude.{◌≡◌, ℕ, Bool, true, false, cond, List, length, replicate, ℤ, pos, Some, None, Ok, Err, Option, Result}
+use Rattle.std.specs.Prelude.{◌≡◌, ℕ, Bool, true, false, List, length, replicate, ℤ, pos, Some, None, Ok, Err, Option, Result}
 use Rattle.formula.specs.Game.{Qbf}
 use Rattle.formula.specs.declared.side.Side.{Side}
 use Rattle.reader.specs.Text.{reads}
 use Rattle.engine.specs.Meaning.{Asked, Answered}
-use Rattle.layout.specs.declared.game.Game.{Game}
 use Rattle.layout.specs.Begun.{Begun}
 use Rattle.soundness.specs.Soundness.{SoundPool}
 use Rattle.game.specs.declared.faults.GameFault.{GameFault}

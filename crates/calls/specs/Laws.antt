@@ -1,6 +1,6 @@
 -- The law of all runs: what is true of each game, whatever was called before and in between.
-use Rattle.std.specs.Prelude.{◌≡◌, ℕ, suc, ◌-◌, ◌^◌, ◌<◌, ◌≤◌, Bool, true, ◌↔◌, List, length, take, ℤ, Some, None, Ok, Err, Result, slice_index_or}
-use Rattle.std.proofs.Math.Option.{none, some, Option as Maybe}
+use Rattle.std.specs.Prelude.{◌≡◌, ℕ, suc, ◌-◌, ◌^◌, ◌<◌, ◌≤◌, Bool, true, ◌↔◌, List, length, take, Some, Ok, Result, slice_index_or}
+use Rattle.std.proofs.Math.Option.{some}
 use Rattle.formula.specs.Game.{Qbf, Play, PlayOf}
 use Rattle.formula.specs.Backward.{onto}
 use Rattle.formula.specs.Plans.{CanWin}
@@ -9,8 +9,6 @@ use Rattle.formula.specs.declared.side.Side.{Side}
 use Rattle.formula.specs.declared.side.Side.TheVariants.{Ours}
 use Rattle.strategy.specs.RecordedPlan.{move, RecordedPlanWins, flat}
 use Rattle.strategy.specs.WellFormed.{bound}
-use Rattle.layout.specs.declared.game.Game.{Game}
-use Rattle.layout.specs.Shown.{levels_of}
 use Rattle.layout.specs.Viewed.{signals_of}
 use Rattle.plan.specs.NextMove.{is_level_of, next_move}
 use Rattle.plan.specs.MoveLaws.{all_entries_in}

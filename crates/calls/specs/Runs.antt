@@ -1,5 +1,5 @@
 -- Runs: one call after another over any number of tables, none of which holds a game at first.
-use Rattle.std.specs.Prelude.{◌≡◌, ℕ, suc, ◌<◌, ◌≤◌, Bool, true, false, cond, List, [], ◌∷◌, length, Ok, Err, Result, ◌==◌, slice_index_or, slice_set}
+use Rattle.std.specs.Prelude.{◌≡◌, ℕ, suc, ◌<◌, ◌≤◌, true, false, cond, List, [], ◌∷◌, length, Ok, Err, Result, ◌==◌, slice_index_or, slice_set}
 use Rattle.std.proofs.Math.Option.{none, some, Option as Maybe}
 use Rattle.formula.specs.Game.{Qbf}
 use Rattle.formula.specs.Lists.{All}

@@ -6,9 +6,9 @@ ghost use Rattle.calls.specs.Happening.{Happens};
 
 use crate::acts::{ask_at, move_at, open_at, retire_at, step_at};
 use crate::call::{Action, Outcome};
-use plan_check::check;
 use engine::{Engine, Question};
 use game::{Table, Verdict};
+use plan_check::check;
 use std::alloc::{AllocError, Global};
 
 // Only want of memory keeps a call from being made.

@@ -1,8 +1,8 @@
 // The calls that a list may have, and what comes of each.
-use plan_check::CheckFault;
 use engine::{Answer, Refusal};
 use formula::Side;
 use game::{GameFault, MoveFault, StepFault};
+use plan_check::CheckFault;
 
 #[derive(Clone, Copy)]
 pub enum Action<'a> {

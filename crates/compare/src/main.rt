@@ -1,6 +1,7 @@
 // Puts thousands of pseudo-random questions to the counting and the branching engine and compares their answers.
 // Then three larger questions show what branching alone can do. The output is fixed.
 #![tactic(auto)]
+
 ghost use Rattle.std.specs.Prelude.{pos, ◌≤ℤ◌};
 
 use branching::Branching;

@@ -1,5 +1,6 @@
 // Reads a formula on standard input and prints what it says, or why it is none.
 #![tactic(auto)]
+
 mod faults;
 mod show;
 

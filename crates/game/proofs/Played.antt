@@ -1,17 +1,17 @@
 -- What a step does, from the parts that it is made of.
-use Rattle.std.proofs.Common.{◌≡◌, ℕ, ◌<◌, ◌≤◌, false, T, ltb, leb, List, [], length, take, ℤ, None, sym, refl, ap, ◌∙◌, subst, arith}
+use Rattle.std.proofs.Common.{◌≡◌, ◌<◌, ◌≤◌, false, T, ltb, List, [], length, take, ℤ, None, sym, ap, ◌∙◌, subst}
 use Rattle.std.proofs.lemmas.List.{length-take-le}
 use Rattle.std.proofs.lemmas.Bool.{cond-true, cond-false, le-leb, lt-leb, le-ltb}
 use Rattle.formula.specs.declared.side.Side.{Side}
 use Rattle.formula.proofs.Maps.{length-each}
 use Rattle.strategy.specs.Next.{no_level_winner}
 use Rattle.strategy.specs.Next.{Answer as Said, refused}
-use Rattle.strategy.specs.View.{GameView, AnswersView}
+use Rattle.strategy.specs.View.{AnswersView}
 use Rattle.strategy.specs.View.{stepped as steppedView}
 use Rattle.engine.specs.declared.question.Answer.{Answer}
 use Rattle.layout.specs.declared.game.Game.{Game}
 use Rattle.layout.specs.Viewed.{view_level, view_of, clauses_of}
-use Rattle.rules.specs.Changes.{Held, held, with_verdict, decided_for, changed, stepped, said, Marked}
+use Rattle.rules.specs.Changes.{held, decided_for, changed, stepped, said, Marked}
 use Rattle.rules.specs.Spare.{Spare}
 use Rattle.rules.proofs.Stepping.{Follows}
 use Rattle.rules.proofs.Stepped.{answer_follows, unasked_follows}

@@ -1,9 +1,9 @@
 -- The question about the present level is never refused, and an answer to it is one of the theory.
-use Rattle.std.proofs.Common.{◌≡◌, ℕ, zero, suc, ◌+◌, ◌-◌, ◌*◌, ◌<◌, ◌≤◌, Bool, true, false, cond, List, [], ◌∷◌, length, get_or, take, drop, ℤ, pos, neg_ℤ, nat_abs, None, sym, refl, ap, ◌∙◌, subst, arith}
+use Rattle.std.proofs.Common.{◌≡◌, ℕ, zero, suc, ◌+◌, ◌-◌, ◌*◌, ◌<◌, ◌≤◌, Bool, false, cond, List, [], ◌∷◌, length, get_or, take, drop, ℤ, pos, neg_ℤ, nat_abs, sym, refl, ap, ◌∙◌, subst, arith}
 use lib.Signed.{lt_z}
 use Rattle.std.specs.List.{AllByRecursion as All}
 use Rattle.std.proofs.lemmas.Bool.{cond_both}
-use Rattle.formula.specs.Lists.{keep, each, from, below}
+use Rattle.formula.specs.Lists.{keep, from, below}
 use Rattle.formula.specs.Lists.{All as Each}
 use Rattle.formula.specs.declared.side.Side.{Side}
 use Rattle.formula.specs.declared.side.Side.TheVariants.{Ours, Device}
@@ -20,16 +20,15 @@ use Rattle.engine.proofs.Layers.{Named, named_from_no}
 use Rattle.strategy.specs.Signals.{signal}
 use Rattle.strategy.specs.Records.{assumptions, values_of}
 use Rattle.strategy.specs.Questions.{assumed, assumed_clauses, YesAnswer, NoAnswer, clauses_named}
-use Rattle.strategy.specs.View.{LevelView, AnswersView, at}
+use Rattle.strategy.specs.View.{LevelView, at}
 use Rattle.strategy.proofs.Numbers.{no_by_names}
 use Rattle.layout.specs.declared.game.Game.{Game}
 use Rattle.layout.specs.Table.{Limits, level_of}
 use Rattle.layout.specs.Viewed.{view_level, view_of, signals_of}
 use Rattle.layout.specs.Shown.{variables_at}
 use Rattle.soundness.specs.Soundness.{SoundPool}
-use Rattle.rules.specs.Naming.{base_of, Names}
-use Rattle.rules.specs.Changes.{said, values_said}
-use Rattle.rules.specs.Spare.{Spare, Readable, OfLevel}
+use Rattle.rules.specs.Naming.{base_of}
+use Rattle.rules.specs.Changes.{values_said}
 use Rattle.rules.proofs.SetsOf.{keep_few}
 use Rattle.rules.proofs.Chosen.{each_kept}
 use Rattle.rules.proofs.Growing.{each_at}

@@ -1,11 +1,10 @@
 -- An engine's answer, by its meaning, is an answer to the question about the present level.
-use Rattle.std.proofs.Common.{◌≡◌, ℕ, zero, suc, ◌+◌, ◌-◌, ◌*◌, ◌<◌, ◌≤◌, Bool, true, false, cond, not, ◌&&◌, ◌||◌, T, ltb, List, [], ◌∷◌, ◌++◌, length, get_or, take, drop, ℤ, pos, negsuc, neg_ℤ, nat_abs, sym, refl, ap, ◌∙◌, subst, ap₂, inl, inr, ⊎_elim, add-zero, zero-add, arith}
+use Rattle.std.proofs.Common.{◌≡◌, ℕ, zero, suc, ◌-◌, ◌<◌, ◌≤◌, Bool, true, false, cond, ◌&&◌, ◌||◌, T, List, [], ◌∷◌, ◌++◌, get_or, ℤ, pos, negsuc, neg_ℤ, sym, refl, ap, ◌∙◌, subst, ap₂, inl, inr, ⊎_elim, arith}
 use mathlib.Core.List.{nil≢cons}
 use lib.Signed.{lt_z}
-use Rattle.std.specs.List.{AllByRecursion as AllOf}
 use Rattle.std.proofs.lemmas.List.{get_or_append_left, get_or_push}
 use Rattle.std.proofs.lemmas.Bool.{cases_lt, lt-ltb}
-use Rattle.formula.specs.Lists.{all, any, keep, In, All, each, from, below}
+use Rattle.formula.specs.Lists.{all, any, In, each}
 use Rattle.formula.specs.Proper.{Ascending}
 use Rattle.formula.specs.declared.side.Side.{Side}
 use Rattle.formula.specs.declared.side.Side.TheVariants.{Ours, Device}
@@ -17,7 +16,7 @@ use Rattle.engine.specs.Meaning.{Part, none, leave, Clash, values, value_after}
 use Rattle.engine.specs.Meaning.{keep as take-it}
 use Rattle.rules.proofs.Stepping.{ascending_lower}
 use Rattle.strategy.specs.Signals.{signal}
-use Rattle.strategy.specs.Records.{holds, satisfies, Unsatisfiable, assumptions, values_of}
+use Rattle.strategy.specs.Records.{holds, satisfies, Unsatisfiable, assumptions}
 use Rattle.strategy.specs.Questions.{clause_of, clauses_named}
 
 -- the engine's words for what is true, and the theory's

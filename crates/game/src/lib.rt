@@ -1,5 +1,6 @@
 // A game of a formula: its table, and the calls on table and pool.
 #![tactic(auto)]
+
 mod ending;
 mod faults;
 mod moves;

@@ -1,12 +1,13 @@
 // Plays two small games, E and F, step by step, and prints steps, records, questions and moves. The output is fixed.
 #![tactic(auto)]
+
 mod board;
 
 use board::{Turn, make_turn, opened, play, print_numbers, print_record};
-use plan_check::check;
 use engine::{Counting, Engine, Tally};
 use formula::Side;
 use game::{NOT_ITS_VERDICT, Table, Verdict, next_move, retire};
+use plan_check::check;
 use std::io;
 use trimmer::Trimmer;
 

@@ -1,12 +1,12 @@
 -- One turn of the loop that writes the chains of the levels and puts the levels at their places.
-use Rattle.std.proofs.Common.{◌≡◌, ℕ, suc, ◌+◌, ◌<◌, ◌≤◌, max, eqb, List, [], ◌∷◌, length, get_or, drop, set, ℤ, sym, refl, ap, ◌∙◌, subst, add-one, arith}
+use Rattle.std.proofs.Common.{◌≡◌, ℕ, suc, ◌+◌, ◌<◌, eqb, List, [], ◌∷◌, length, get_or, drop, set, ℤ, sym, refl, ap, ◌∙◌, subst, add-one, arith}
 use Rattle.std.proofs.lemmas.List.{drop_more, length-set}
 use Rattle.formula.specs.Game.{other, Clauses, Qbf}
 use Rattle.formula.specs.Model.{level_at}
 use Rattle.formula.specs.declared.side.Side.{Side}
 use Rattle.strategy.specs.Records.{open_records}
 use Rattle.layout.specs.declared.game.Level.{Level}
-use Rattle.layout.specs.Laying.{Laid, lay, laid, fresh, laid_chains, words_for, words_for_chains, Enough, EnoughChains}
+use Rattle.layout.specs.Laying.{Laid, lay, laid, fresh, laid_chains, words_for, Enough, EnoughChains}
 use Rattle.layout.specs.Opening.{level_records, level_chains}
 use Rattle.layout.specs.Opened.{new_level, new_levels, put_from}
 use Rattle.layout.proofs.Counted.{records_place, levels_place}

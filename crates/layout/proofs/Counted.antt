@@ -1,15 +1,15 @@
 -- The words of records, counted from a place on; and the chains of the levels from a place on.
-use Rattle.std.proofs.Common.{◌≡◌, ℕ, zero, suc, ◌+◌, ◌-◌, ◌*◌, ◌<◌, ◌≤◌, Bool, true, false, eqb, List, [], ◌∷◌, ◌++◌, length, get_or, take, drop, ℤ, sym, refl, ap, ◌∙◌, subst, mul-zero, mul-suc, mul-add, add-one, arith}
+use Rattle.std.proofs.Common.{◌≡◌, ℕ, ◌+◌, ◌-◌, ◌*◌, ◌<◌, ◌≤◌, true, false, eqb, List, [], ◌∷◌, length, get_or, take, drop, ℤ, sym, refl, ap, ◌∙◌, mul-suc, add-one, arith}
 use Rattle.std.proofs.lemmas.List.{length-take-le, length-drop, drop_more}
-use Rattle.std.proofs.lemmas.Bool.{eq-eqb, ne_eqb, cases_eq}
+use Rattle.std.proofs.lemmas.Bool.{eq-eqb, ne_eqb}
 use Rattle.formula.specs.Lists.{each, below}
 use Rattle.formula.specs.Game.{other, Clauses, Qbf}
 use Rattle.formula.specs.Model.{level_at}
 use Rattle.formula.specs.declared.side.Side.{Side}
 use Rattle.formula.specs.declared.side.Side.TheVariants.{Ours, Device}
-use Rattle.strategy.specs.Records.{gather, literals_on, open_records}
-use Rattle.layout.specs.Laying.{words_for, words_for_chains}
-use Rattle.layout.specs.Opening.{our_record, device_record, clause_records, level_records, is_nil, level_chains}
+use Rattle.strategy.specs.Records.{gather, open_records}
+use Rattle.layout.specs.Laying.{words_for}
+use Rattle.layout.specs.Opening.{our_record, device_record, level_records, is_nil, level_chains}
 
 -- the records of two numbers each
 pub words_of_pairs : (C : Clauses) (n i : ℕ) (ls : List ℤ) → words_for (each (device_record C n i) ls) ≡ 4 * length ls

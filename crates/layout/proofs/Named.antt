@@ -1,8 +1,8 @@
 -- The numbers of the records that open writes name signals.
-use Rattle.std.proofs.Common.{◌≡◌, ℕ, zero, suc, ◌+◌, ◌*◌, ◌<◌, ◌≤◌, Bool, true, false, cond, T, ◌⊎◌, List, [], ◌∷◌, ◌++◌, length, get_or, ℤ, pos, negsuc, neg_ℤ, nat_abs, sym, refl, ap, ◌∙◌, subst, inl, inr, ⊎_elim, arith}
+use Rattle.std.proofs.Common.{◌≡◌, ℕ, zero, suc, ◌+◌, ◌*◌, ◌<◌, ◌≤◌, Bool, true, false, T, List, [], ◌∷◌, ◌++◌, length, get_or, ℤ, pos, negsuc, neg_ℤ, nat_abs, sym, refl, subst, ⊎_elim, arith}
 use Rattle.std.specs.List.{AllByRecursion as All}
 use Rattle.std.proofs.lemmas.Bool.{cond_both}
-use Rattle.formula.specs.Lists.{keep, each, elem, from, below}
+use Rattle.formula.specs.Lists.{keep, each, elem, from}
 use Rattle.formula.specs.Lists.{All as Each}
 use Rattle.formula.specs.Game.{Clauses, Qbf}
 use Rattle.formula.specs.Proper.{Ascending, Bound, Proper}
@@ -11,7 +11,7 @@ use Rattle.formula.specs.declared.side.Side.TheVariants.{Ours, Device}
 use Rattle.pool.specs.Records.{Literal}
 use Rattle.strategy.specs.Records.{gather, literals_on, open_records}
 use Rattle.strategy.specs.Signals.{t_signal, b_signal}
-use Rattle.layout.specs.Opening.{our_record, device_record, clause_records, level_records, is_nil}
+use Rattle.layout.specs.Opening.{device_record, clause_records, is_nil}
 use Rattle.layout.proofs.Formulas.{ascending_bounds}
 use Rattle.layout.proofs.Counted.{open_records_lem}
 

@@ -1,7 +1,7 @@
 -- Where there is room for records, there is room for the first, and behind it for the rest.
-use Rattle.std.proofs.Common.{◌≡◌, ℕ, zero, suc, ◌+◌, ◌<◌, ◌≤◌, List, [], ◌∷◌, ◌++◌, length, get_or, drop, ℤ, sym, refl, ap, ◌∙◌, subst, zero-add, add-one, arith}
+use Rattle.std.proofs.Common.{◌≡◌, ℕ, zero, suc, ◌+◌, ◌<◌, List, [], ◌∷◌, ◌++◌, length, get_or, drop, ℤ, sym, refl, ap, ◌∙◌, subst, zero-add, add-one, arith}
 use Rattle.std.proofs.lemmas.List.{drop_more}
-use Rattle.formula.specs.Lists.{each, from, below}
+use Rattle.formula.specs.Lists.{from, below}
 use Rattle.formula.specs.Game.{Qbf}
 use Rattle.formula.specs.Model.{clause_at}
 use Rattle.pool.specs.Append.{Room}

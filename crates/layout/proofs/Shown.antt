@@ -1,9 +1,9 @@
 -- The game that open has begun shows the state from which games start.
-use Rattle.std.proofs.Common.{◌≡◌, ℕ, zero, suc, ◌+◌, ◌*◌, ◌<◌, ◌≤◌, Bool, true, false, cond, ◌||◌, eqb, ◌≢◌, ◌⊎◌, List, [], ◌∷◌, ◌++◌, length, get_or, take, set, replicate, ℤ, sym, refl, ap, ◌∙◌, subst, inl, inr, ⊎_elim, append_assoc, zero-add, add-one, arith}
+use Rattle.std.proofs.Common.{◌≡◌, ℕ, zero, suc, ◌+◌, ◌*◌, ◌<◌, ◌≤◌, Bool, false, cond, ◌||◌, List, [], ◌∷◌, ◌++◌, length, get_or, take, set, replicate, ℤ, sym, refl, ap, ◌∙◌, subst, ⊎_elim, append_assoc, zero-add, add-one, arith}
 use Rattle.std.specs.List.{AllByRecursion as All}
 use Rattle.std.proofs.lemmas.List.{append-nil, take_more_set, length-set, length-replicate, get_or-replicate, get_or_past}
-use Rattle.std.proofs.lemmas.Bool.{cond-true, cond-false, cases_lt, cases_eq, eq-eqb, ne_eqb}
-use Rattle.formula.specs.Lists.{keep, each, elem, from, below}
+use Rattle.std.proofs.lemmas.Bool.{cond-true, cond-false, cases_lt, eq-eqb, ne_eqb}
+use Rattle.formula.specs.Lists.{keep, each, elem, from}
 use Rattle.formula.specs.Lists.{All as Each}
 use Rattle.formula.specs.Game.{other, Clauses, Qbf}
 use Rattle.formula.specs.Backward.{turned}
@@ -12,18 +12,16 @@ use Rattle.formula.specs.declared.side.Side.{Side}
 use Rattle.formula.specs.declared.side.Side.TheVariants.{Ours, Device}
 use Rattle.formula.proofs.Looked.{each-from_at}
 use Rattle.formula.proofs.Turned.{turned-turned}
-use Rattle.pool.specs.Records.{records, Literal}
-use Rattle.strategy.specs.Entries.{LevelState}
+use Rattle.pool.specs.Records.{Literal}
 use Rattle.strategy.specs.Records.{open_records, chain}
-use Rattle.strategy.specs.Steps.{opened}
 use Rattle.strategy.specs.Steps.{new_level as begun}
-use Rattle.strategy.specs.View.{LevelView, Shows, ShowsFront, ShowsPresent, still_playing}
+use Rattle.strategy.specs.View.{ShowsFront, ShowsPresent, still_playing}
 use Rattle.layout.specs.declared.game.Level.{Level}
 use Rattle.layout.specs.Table.{blank}
 use Rattle.layout.specs.Laying.{Laid, laid, fresh, laid_chains, EnoughChains}
 use Rattle.layout.specs.Opening.{level_chains, open_chains, words_needed}
-use Rattle.layout.specs.Opened.{flags_of, new_level, new_levels, put_from, unused, opened_pool, opened_game}
-use Rattle.layout.specs.Viewed.{variables_in, view_level, view_of, clauses_of}
+use Rattle.layout.specs.Opened.{flags_of, new_levels, put_from, unused, opened_pool, opened_game}
+use Rattle.layout.specs.Viewed.{view_level}
 use Rattle.layout.specs.Begun.{Begun}
 use Rattle.layout.proofs.Begun.{enough_first, enough_others}
 use Rattle.layout.proofs.Grown.{laid_long, laid_grows, fresh_sound, chains_keep}

@@ -1,5 +1,5 @@
 -- Two small formulas, and the words that their games begin with.
-use Rattle.std.specs.Prelude.{◌≡◌, List, [], ◌∷◌, pos, negsuc}
+use Rattle.std.specs.Prelude.{◌≡◌, [], ◌∷◌, pos, negsuc}
 use Rattle.formula.specs.Game.{Qbf}
 use Rattle.formula.specs.declared.side.Side.TheVariants.{Ours, Device}
 use Rattle.layout.specs.Opening.{words_needed}

@@ -1,5 +1,5 @@
 -- What a table keeps, what always holds of it, and the empty one.
-use Rattle.std.specs.Prelude.{◌≡◌, ℕ, ◌<◌, ◌≤◌, false, List, [], length, replicate, None, slice_index_or}
+use Rattle.std.specs.Prelude.{◌≡◌, ℕ, ◌<◌, ◌≤◌, false, [], length, replicate, None, slice_index_or}
 use Rattle.formula.specs.declared.side.Side.TheVariants.{Ours}
 use Rattle.layout.specs.declared.game.Level.{Level}
 use Rattle.layout.specs.declared.game.Game.{Game}

@@ -1,5 +1,5 @@
 -- A game as table and pool show it: the view of its levels, their chains and entries, the present place and the verdict.
-use Rattle.std.specs.Prelude.{ℕ, ◌+◌, ◌*◌, Bool, false, List, get_or, take, ℤ, Some, None, Option, slice_index_or}
+use Rattle.std.specs.Prelude.{ℕ, ◌+◌, ◌*◌, false, List, get_or, take, ℤ, Some, None, Option, slice_index_or}
 use Rattle.std.proofs.Math.Option.{none, some, Option as Maybe}
 use Rattle.formula.specs.Lists.{keep, each, from}
 use Rattle.formula.specs.Game.{Values, Clauses}

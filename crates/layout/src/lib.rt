@@ -1,6 +1,7 @@
 // How a game lies in its table and in the caller's pool, and the words that open writes.
 // Internal: for the crates above, which know what the functions here require.
 #![tactic(auto)]
+
 mod begin;
 mod chains;
 mod game;

@@ -1,6 +1,7 @@
 // The recorded plan of a side, read off a sound pool: plays, and the newest entry that fits one.
 // Internal: for the crates above, which know what the functions here require.
 #![tactic(auto)]
+
 mod fitting;
 mod move_laws;
 mod plays;

@@ -1,14 +1,13 @@
 -- An entry and a learned record, as table and pool show them then; and that the pool stays sound.
-use Rattle.std.proofs.Common.{◌≡◌, ℕ, zero, suc, ◌+◌, ◌*◌, ◌<◌, ◌≤◌, Bool, true, false, cond, List, [], ◌∷◌, ◌++◌, length, get_or, take, set, ℤ, pos, negsuc, neg_ℤ, nat_abs, sym, refl, ap, ◌∙◌, subst, ap₂, arith}
+use Rattle.std.proofs.Common.{◌≡◌, ℕ, zero, suc, ◌+◌, ◌<◌, ◌≤◌, Bool, true, false, cond, List, [], ◌∷◌, ◌++◌, length, take, set, ℤ, pos, neg_ℤ, sym, refl, ap, ◌∙◌, subst, ap₂, arith}
 use Rattle.std.specs.List.{AllByRecursion as AllOf}
-use Rattle.std.proofs.lemmas.List.{get_or-set_other}
-use Rattle.formula.specs.Lists.{keep, All, In, each, from, below}
-use Rattle.formula.specs.Game.{Clauses, Values, choices}
+use Rattle.formula.specs.Lists.{keep, All, each, from}
+use Rattle.formula.specs.Game.{Clauses}
 use Rattle.formula.specs.Proper.{Ascending}
 use Rattle.formula.specs.declared.side.Side.{Side}
 use Rattle.formula.specs.declared.side.Side.TheVariants.{Ours, Device}
 use Rattle.pool.specs.Layout.{place_after}
-use Rattle.pool.specs.Records.{records, Literal, Sound}
+use Rattle.pool.specs.Records.{records, Literal}
 use Rattle.pool.specs.Append.{Room}
 use Rattle.pool.proofs.Written.{new_sound, new_records}
 use Rattle.strategy.specs.Entries.{Entry}
@@ -20,12 +19,12 @@ use Rattle.strategy.proofs.Numbers.{entry_read_back}
 use Rattle.layout.specs.declared.game.Level.{Level}
 use Rattle.layout.specs.declared.game.Game.{Game}
 use Rattle.layout.specs.Table.{nought, level_of}
-use Rattle.layout.specs.Viewed.{variables_in, view_level, signals_of}
+use Rattle.layout.specs.Viewed.{view_level, signals_of}
 use Rattle.layout.specs.Shown.{binds_in, variables_at}
 use Rattle.layout.proofs.ProperRows.{row_proper}
 use Rattle.soundness.specs.Soundness.{EntryForm, SoundPool}
 use Rattle.rules.specs.Noting.{entries_to, chain_to}
-use Rattle.rules.proofs.Growing.{grown_pool, grown_used, grown_game, NewLevel, chain_sound, chain_same, views_grown, pool_grown, each_at}
+use Rattle.rules.proofs.Growing.{grown_pool, grown_game, NewLevel, chain_sound, chain_same, views_grown, pool_grown, each_at}
 
 -- the numbers of an entry and of a learned record name signals
 all-each : (P : ℤ → Type 0) (f : ℕ → ℤ) (k : ℕ) (A : List ℕ) → All (λ i. i < k) A → ((i : ℕ) → i < k → P (f i)) → AllOf P (each f A)

@@ -1,9 +1,8 @@
 -- A record more in front of one chain of a level: the pool stays sound, and all else that table and pool show stays.
-use Rattle.std.proofs.Common.{◌≡◌, ℕ, zero, suc, ◌+◌, ◌<◌, ◌≤◌, Bool, false, ◌≢◌, List, [], ◌∷◌, length, get_or, take, set, ℤ, nat_abs, sym, refl, ap, ◌∙◌, subst, ap₂, ⊎_elim, arith}
+use Rattle.std.proofs.Common.{◌≡◌, ℕ, zero, suc, ◌+◌, ◌<◌, ◌≤◌, false, ◌≢◌, List, [], ◌∷◌, length, get_or, take, set, ℤ, nat_abs, sym, refl, ap, ◌∙◌, subst, ap₂, ⊎_elim, arith}
 use Rattle.std.proofs.lemmas.List.{get_or-set_same, get_or-set_other}
 use Rattle.std.proofs.lemmas.Bool.{cases_eq}
-use Rattle.formula.specs.Lists.{keep, All, each, from, below}
-use Rattle.formula.specs.Backward.{turned}
+use Rattle.formula.specs.Lists.{keep, All, each, from}
 use Rattle.formula.specs.Proper.{literals_of, Bound}
 use Rattle.formula.proofs.Maps.{each_same_from}
 use Rattle.pool.specs.Layout.{size_for, place_after}
@@ -11,13 +10,13 @@ use Rattle.pool.specs.Records.{records, Sound}
 use Rattle.pool.specs.Append.{Room, written}
 use Rattle.pool.proofs.Written.{length_written, other_sound, other_records}
 use Rattle.strategy.specs.Records.{entry_of}
-use Rattle.strategy.specs.View.{LevelView, no_level, at}
+use Rattle.strategy.specs.View.{LevelView}
 use Rattle.layout.specs.declared.game.Level.{Level}
 use Rattle.layout.specs.declared.game.Game.{Game}
 use Rattle.layout.specs.Table.{nought, level_of}
-use Rattle.layout.specs.Viewed.{variables_in, values_in, view_level, clauses_of, signals_of}
-use Rattle.layout.specs.Shown.{binds_in, variables_at, levels_of}
-use Rattle.soundness.specs.Soundness.{EntryForm, SoundFormula, SoundEntries, SoundLevel, SoundPool}
+use Rattle.layout.specs.Viewed.{variables_in, values_in, view_level, signals_of}
+use Rattle.layout.specs.Shown.{variables_at, levels_of}
+use Rattle.soundness.specs.Soundness.{EntryForm, SoundFormula, SoundLevel, SoundPool}
 use Rattle.rules.specs.Noting.{with_level}
 
 -- lists of which one element is changed, and what a function makes of the first of them

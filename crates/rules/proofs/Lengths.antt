@@ -1,5 +1,5 @@
 -- How long the records of a step are.
-use Rattle.std.proofs.Common.{◌≡◌, ℕ, ◌+◌, List, length, ℤ, ap, ◌∙◌, ap₂}
+use Rattle.std.proofs.Common.{◌≡◌, ℕ, ◌+◌, List, length, ap, ◌∙◌}
 use Rattle.std.proofs.lemmas.List.{length-append}
 use Rattle.formula.specs.Game.{Clauses, Values}
 use Rattle.formula.specs.declared.side.Side.{Side}

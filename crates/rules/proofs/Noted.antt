@@ -1,18 +1,16 @@
 -- There is room for what a step writes, and an entry below the first level is learned from.
-use Rattle.std.proofs.Common.{◌≡◌, ℕ, zero, suc, ◌+◌, ◌-◌, ◌*◌, ◌<◌, ◌≤◌, List, [], length, get_or, set, ℤ, sym, refl, ap, ◌∙◌, subst, add-zero, arith}
+use Rattle.std.proofs.Common.{◌≡◌, ℕ, zero, suc, ◌+◌, ◌-◌, ◌<◌, ◌≤◌, List, [], length, ℤ, sym, refl, ap, ◌∙◌, subst, add-zero, arith}
 use Rattle.std.proofs.lemmas.List.{get_or-set_other}
 use Rattle.formula.specs.Game.{Values}
 use Rattle.formula.specs.declared.side.Side.{Side}
 use Rattle.strategy.proofs.ListPlaces.{length-onto}
-use Rattle.pool.specs.Records.{records, Sound, Linked}
+use Rattle.pool.specs.Records.{records, Sound}
 use Rattle.pool.specs.Append.{Room}
 use Rattle.layout.specs.declared.game.Level.{Level}
 use Rattle.layout.specs.declared.game.Game.{Game}
 use Rattle.layout.specs.Table.{Limits, nought, level_of}
 use Rattle.layout.specs.Viewed.{clauses_of}
 use Rattle.soundness.specs.Soundness.{SoundFormula}
-use Rattle.strategy.specs.Records.{entry_record}
-use Rattle.rules.specs.Noting.{entries_to}
 use Rattle.rules.specs.Changes.{Held, held, entered, learned, present_at, noted}
 use Rattle.rules.specs.Spare.{Spare, SetOf, bound_by}
 use Rattle.rules.proofs.Lengths.{length_entry}

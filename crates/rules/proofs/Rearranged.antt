@@ -1,5 +1,5 @@
 -- A pool is sound for a game whatever the game's present level, verdict, kept values and satisfied clauses are.
-use Rattle.std.proofs.Common.{◌≡◌, ℕ, false, List, get_or, ℤ, nat_abs, Option, sym, ap, ◌∙◌, subst}
+use Rattle.std.proofs.Common.{◌≡◌, ℕ, false, List, get_or, ℤ, nat_abs, Option, sym, ap, subst}
 use Rattle.formula.specs.Lists.{keep, All, from}
 use Rattle.formula.specs.Proper.{Bound}
 use Rattle.formula.specs.declared.side.Side.{Side}

@@ -1,29 +1,27 @@
 -- Every rule of a step, as table and pool show it.
-use Rattle.std.proofs.Common.{◌≡◌, ℕ, zero, suc, ◌+◌, ◌<◌, ◌≤◌, Bool, true, false, cond, not, ◌&&◌, ◌||◌, ltb, leb, List, [], ◌∷◌, length, get_or, take, set, ℤ, Some, None, Option, sym, refl, ap, ◌∙◌, subst, ap₂, ⊎_elim, arith}
+use Rattle.std.proofs.Common.{◌≡◌, ℕ, zero, suc, ◌<◌, ◌≤◌, Bool, true, false, ◌||◌, ltb, leb, List, length, get_or, take, set, ℤ, Some, None, Option, sym, refl, ap, ◌∙◌, subst, ap₂, ⊎_elim, arith}
 use mathlib.Core.Path.{fun_ext}
 use Rattle.std.proofs.lemmas.List.{get_or-set_same, get_or-set_other, length-set, length-take-le}
 use Rattle.std.proofs.lemmas.Bool.{cond-true, cond-false, cases_lt, cases_eq, lt-ltb, le-ltb, lt-leb, le-leb}
-use Rattle.formula.specs.Lists.{keep, each, from, below}
-use Rattle.formula.specs.Game.{other, Clauses, Values, hits}
+use Rattle.formula.specs.Lists.{each}
+use Rattle.formula.specs.Game.{other, Values, hits}
 use Rattle.formula.specs.Proper.{Ascending}
 use Rattle.formula.specs.declared.side.Side.{Side}
-use Rattle.formula.specs.declared.side.Side.TheVariants.{Ours, Device}
+use Rattle.formula.specs.declared.side.Side.TheVariants.{Ours}
 use Rattle.formula.proofs.Maps.{length-each}
 use Rattle.strategy.specs.Records.{values_of}
 use Rattle.strategy.specs.Steps.{last_entry_set, entry_set}
 use Rattle.strategy.specs.Next.{no_level_winner}
 use Rattle.strategy.specs.Next.{Answer as Said, satisfied, refused}
-use Rattle.strategy.specs.View.{LevelView, GameView, at, keeping, beginning, entering, learning, no_level, still_playing, won_by, yes_below, yes_last, no_set, no_at, answered}
+use Rattle.strategy.specs.View.{LevelView, GameView, at, keeping, beginning, entering, learning, no_level, still_playing, won_by, yes_below, yes_last, no_at, answered}
 use Rattle.strategy.specs.View.{stepped as steppedView}
 use Rattle.layout.specs.declared.game.Level.{Level}
 use Rattle.layout.specs.declared.game.Game.{Game}
-use Rattle.layout.specs.Table.{Limits, nought, level_of}
-use Rattle.layout.specs.Viewed.{variables_in, values_in, view_level, maybe, view_of, clauses_of}
+use Rattle.layout.specs.Table.{nought, level_of}
+use Rattle.layout.specs.Viewed.{values_in, view_level, maybe, view_of, clauses_of}
 use Rattle.layout.specs.Shown.{variables_at}
-use Rattle.soundness.specs.Soundness.{SoundPool}
-use Rattle.rules.specs.Changes.{Held, held, values_to, satisfied_to, flags_for, satisfied_after, kept, decided_for, noted, finished, given_back, changed, stepped, Marked}
+use Rattle.rules.specs.Changes.{held, values_to, satisfied_to, flags_for, satisfied_after, kept, decided_for, finished, given_back, changed, stepped, Marked}
 use Rattle.rules.specs.Spare.{Spare, OfLevel}
-use Rattle.rules.proofs.Noted.{length_clauses}
 use Rattle.rules.proofs.Chosen.{values_kept}
 use Rattle.rules.proofs.Rearranged.{Alike, sound_rearranged}
 use Rattle.rules.proofs.Growing.{each_set, each_at}

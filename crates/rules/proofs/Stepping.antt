@@ -1,11 +1,9 @@
 -- A step as table and pool show it: the rules word for word are the rules of the theory, and the pool stays sound.
-use Rattle.std.proofs.Common.{◌≡◌, ℕ, zero, suc, ◌+◌, ◌-◌, ◌<◌, ◌≤◌, Bool, true, false, cond, not, ◌&&◌, ◌||◌, ltb, leb, List, [], ◌∷◌, length, get_or, take, set, ℤ, Some, None, Option, sym, refl, ap, ◌∙◌, subst, ap₂, ⊎_elim, arith}
-use mathlib.Core.Path.{fun_ext}
-use mathlib.Core.Option.{none, some}
-use Rattle.std.proofs.lemmas.List.{get_or-set_other, length-set, length-take-le}
-use Rattle.std.proofs.lemmas.Bool.{cond_both, cond-true, cond-false, cases_lt, lt-ltb, le-ltb, lt-leb, le-leb}
+use Rattle.std.proofs.Common.{◌≡◌, ℕ, zero, suc, ◌+◌, ◌-◌, ◌<◌, ◌≤◌, Bool, false, not, ◌&&◌, List, [], ◌∷◌, length, get_or, take, set, ℤ, Some, None, Option, sym, refl, ap, ◌∙◌, subst, ap₂, arith}
+use Rattle.std.proofs.lemmas.List.{get_or-set_other, length-set}
+use Rattle.std.proofs.lemmas.Bool.{cond_both}
 use Rattle.formula.specs.Lists.{keep, All, each, from, below}
-use Rattle.formula.specs.Game.{other, Clauses, Values, hits}
+use Rattle.formula.specs.Game.{Clauses, Values, hits}
 use Rattle.formula.specs.Backward.{turned}
 use Rattle.formula.specs.Proper.{Ascending}
 use Rattle.formula.specs.declared.side.Side.{Side}
@@ -14,24 +12,19 @@ use Rattle.formula.proofs.Maps.{length-each}
 use Rattle.pool.specs.Append.{Room}
 use Rattle.strategy.specs.Records.{values_of, entry_record, learned_record}
 use Rattle.strategy.specs.Steps.{last_entry_set, entry_set}
-use Rattle.strategy.specs.Next.{no_level_winner}
-use Rattle.strategy.specs.Next.{Answer as Said, satisfied, refused}
-use Rattle.strategy.specs.View.{LevelView, GameView, at, keeping, beginning, entering, learning, no_level, still_playing, won_by, yes_below, yes_last, no_set, no_at, answered}
-use Rattle.strategy.specs.View.{stepped as steppedView}
-use Rattle.layout.specs.declared.game.Level.{Level}
+use Rattle.strategy.specs.View.{LevelView, GameView, at, entering, learning, no_level, still_playing, won_by}
 use Rattle.layout.specs.declared.game.Game.{Game}
-use Rattle.layout.specs.Table.{Limits, Filled, nought, level_of}
-use Rattle.layout.specs.Viewed.{variables_in, values_in, view_level, maybe, view_of, clauses_of}
+use Rattle.layout.specs.Table.{Limits, Filled, level_of}
+use Rattle.layout.specs.Viewed.{view_level, maybe, view_of, clauses_of}
 use Rattle.layout.specs.Shown.{variables_at}
 use Rattle.soundness.specs.Soundness.{SoundPool}
-use Rattle.rules.specs.Changes.{Held, held, values_to, satisfied_to, flags_for, satisfied_after, kept, entered, learned, noted, finished, given_back, changed, stepped, Marked}
-use Rattle.rules.specs.Spare.{Spare, SetOf, OfLevel, bound_by}
+use Rattle.rules.specs.Changes.{Held, entered, learned, noted}
+use Rattle.rules.specs.Spare.{Spare, SetOf, bound_by}
 use Rattle.rules.proofs.Lengths.{length_entry, length_learned}
 use Rattle.rules.proofs.Noted.{length_clauses, entry_room, entered_room}
 use Rattle.rules.proofs.SetsOf.{all_at, level_few}
-use Rattle.rules.proofs.Chosen.{values_kept}
-use Rattle.rules.proofs.Rearranged.{rearranged, Alike, sound_rearranged}
-use Rattle.rules.proofs.Growing.{each_set, each_at, clauses_same}
+use Rattle.rules.proofs.Rearranged.{Alike, sound_rearranged}
+use Rattle.rules.proofs.Growing.{clauses_same}
 use Rattle.rules.proofs.Entering.{entry_named, learned_named, entry_sound, entry_views, learned_sound, learned_views}
 
 -- sets in ascending order

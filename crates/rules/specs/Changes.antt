@@ -14,7 +14,7 @@ use Rattle.engine.specs.declared.question.Answer.TheVariants.{Yes, No}
 use Rattle.layout.specs.declared.game.Level.{Level}
 use Rattle.layout.specs.declared.game.Game.{Game}
 use Rattle.layout.specs.Table.{level_of}
-use Rattle.layout.specs.Viewed.{variables_in, values_in, clauses_of}
+use Rattle.layout.specs.Viewed.{values_in, clauses_of}
 use Rattle.rules.specs.Noting.{entries_to, chain_to, with_level, entry_written, record_written}
 
 -- a game and its pool

@@ -1,5 +1,6 @@
 // Reads a formula on standard input, decides it, and prints the winner's plan; or says why not.
 #![tactic(auto)]
+
 mod deciding;
 mod plan;
 mod report;

@@ -1,7 +1,7 @@
 // Every sentence that the program says about a refusal, the winner and the plan.
-use plan_check::CheckFault;
 use formula::Side;
 use game::{GameFault, StepFault};
+use plan_check::CheckFault;
 use reader::{TextFault, WordFault};
 
 fn word_fault(fault: WordFault) -> &'static str {

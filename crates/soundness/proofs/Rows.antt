@@ -1,7 +1,7 @@
 -- What holds of each element of a list, and of a set of variables, one element after another.
-use Rattle.std.proofs.Common.{◌≡◌, ℕ, zero, suc, ◌+◌, ◌<◌, ◌≤◌, Bool, true, false, ◌||◌, T, eqb, ◌⊎◌, ◌↔◌, List, [], ◌∷◌, sym, refl, ap, ◌∙◌, subst, inl, inr, ⊎_elim, arith, eqb→eq}
+use Rattle.std.proofs.Common.{◌≡◌, ℕ, zero, suc, ◌+◌, ◌<◌, ◌≤◌, Bool, true, false, T, eqb, ◌↔◌, List, [], ◌∷◌, sym, ◌∙◌, subst, inl, inr, ⊎_elim, arith, eqb→eq}
 use Rattle.std.proofs.lemmas.Bool.{cond_both, cases_lt, false≢true}
-use Rattle.formula.specs.Lists.{All, Any, each, elem, keep, from}
+use Rattle.formula.specs.Lists.{All, each, elem, keep, from}
 use Rattle.formula.specs.Proper.{Bound}
 use Rattle.formula.proofs.Tests.{or_cases}
 use Rattle.formula.proofs.Looked.{elem_kept}

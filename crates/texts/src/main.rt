@@ -1,6 +1,7 @@
 // Reads each line of standard input as a text, and prints what it reads as: the formula's numbers, or the refusal.
 // In a line \n, \r, \t and \\ stand for themselves, \xHH is a byte, and {COUNT|TEXT} is TEXT so many times.
 #![tactic(auto)]
+
 mod escapes;
 
 use escapes::decode;

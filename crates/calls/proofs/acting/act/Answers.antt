@@ -1,4 +1,4 @@
-use Rattle.std.proofs.Common.{◌≡◌, IfOk, Ok, Err, Result, sym, refl, subst, MatchResult}
+use Rattle.std.proofs.Common.{IfOk, Ok, Err, Result, sym, refl, subst, MatchResult}
 use Rattle.calls.specs.Acts.{act_of, told_by, checked}
 use Rattle.calls.specs.Places.{place_with}
 use Rattle.calls.specs.Happening.{Happens, checks, asks}

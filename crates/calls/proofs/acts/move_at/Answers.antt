@@ -1,5 +1,5 @@
-use Rattle.std.proofs.Common.{◌≡◌, List, length, drop, replicate, ℤ, pos, sym, refl, ap, ◌∙◌, subst}
-use Rattle.std.proofs.lemmas.List.{take_at, length-replicate}
+use Rattle.std.proofs.Common.{◌≡◌, List, length, drop, replicate, ℤ, pos, sym, ◌∙◌, subst}
+use Rattle.std.proofs.lemmas.List.{take_at}
 use Rattle.game.specs.Moves.{called, Moved}
 use Rattle.calls.specs.Happening.{moves, moves_without}
 use Rattle.calls.proofs.acts.move_at.Goals as goal

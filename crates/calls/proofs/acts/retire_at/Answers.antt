@@ -1,7 +1,7 @@
-use Rattle.std.proofs.Common.{◌≡◌, Some, None, Ok, Err, sym, refl, ap, ◌∙◌, subst}
+use Rattle.std.proofs.Common.{sym, refl, ap, ◌∙◌, subst}
 use Rattle.calls.specs.Acts.{no_verdict}
 use Rattle.calls.specs.Acts.{retire as retireAct}
-use Rattle.calls.specs.Places.{Place, place_with}
+use Rattle.calls.specs.Places.{place_with}
 use Rattle.calls.specs.Happening.{Happens, retires, retires_without, taken, verdict_retired}
 use Rattle.calls.proofs.acts.retire_at.Goals as goal
 

@@ -1,4 +1,4 @@
-use Rattle.std.proofs.Common.{◌≡◌, Some, Ok, Err, sym, refl, ap, ◌∙◌, subst}
+use Rattle.std.proofs.Common.{Some, Ok, Err, refl, ap, subst}
 use Rattle.game.specs.Steps.{StepGives}
 use Rattle.game.specs.declared.stepping.Progress.TheVariants.{WentOn, Decided}
 use Rattle.calls.specs.Happening.{steps}

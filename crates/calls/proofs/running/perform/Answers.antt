@@ -1,6 +1,5 @@
-use Rattle.std.proofs.Common.{◌≡◌, ◌<◌, ◌≤◌, List, map, length, get_or, drop, ℤ, sym, refl, ap, ◌∙◌, subst, arith, MatchResult}
+use Rattle.std.proofs.Common.{◌≡◌, ◌<◌, ◌≤◌, List, map, length, get_or, drop, ℤ, ap, ◌∙◌, subst, arith, MatchResult}
 use Rattle.std.proofs.lemmas.List.{length-map, take_at}
-use Rattle.calls.specs.declared.seat.Seat.{Seat}
 use Rattle.calls.specs.Acts.{act_of, told_by}
 use Rattle.calls.specs.Places.{Place, place_with, place_of}
 use Rattle.calls.specs.Happening.{Happens}

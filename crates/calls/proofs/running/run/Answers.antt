@@ -1,8 +1,8 @@
-use Rattle.std.proofs.Common.{◌≡◌, ℕ, ◌+◌, ◌<◌, ◌≤◌, List, [], ◌∷◌, ◌++◌, map, length, get_or, take, vec_items, sym, refl, ap, ◌∙◌, subst, arith}
+use Rattle.std.proofs.Common.{◌≡◌, ◌+◌, [], ◌∷◌, ◌++◌, map, length, get_or, take, vec_items, sym, ap, ◌∙◌, subst, arith}
 use Rattle.std.proofs.lemmas.List.{map_push, length-map, take_all}
 use Rattle.calls.specs.declared.call.Call.{Call}
 use Rattle.calls.specs.declared.call.Action.TheVariants.{Open}
-use Rattle.calls.specs.Acts.{Told, told_by}
+use Rattle.calls.specs.Acts.{told_by}
 use Rattle.calls.specs.Places.{place_of}
 use Rattle.calls.specs.Runs.{event_of, events_of}
 use Rattle.calls.specs.Laws.{Continues}

@@ -1,4 +1,4 @@
-use Rattle.std.proofs.Common.{◌≡◌, ℕ, ◌+◌, ◌≤◌, length, replicate, Ok, Err, sym, refl, ap, ◌∙◌, subst, arith}
+use Rattle.std.proofs.Common.{length, replicate, sym, ap, ◌∙◌, subst, arith}
 use Rattle.formula.specs.Model.{qbf}
 use Rattle.reader.specs.Text.{reads}
 use Rattle.layout.specs.Table.{Limits, Filled, blank}
@@ -6,7 +6,7 @@ use Rattle.layout.specs.Opening.{open_chains}
 use Rattle.layout.specs.Laying.{laid}
 use Rattle.layout.specs.Opened.{new_levels, unused, opened_game}
 use Rattle.layout.proofs.Begun.{chains_some, length_put}
-use Rattle.game.specs.Opens.{opening, open_gives, pool_after, game_after, holds_after}
+use Rattle.game.specs.Opens.{open_gives, pool_after, game_after, holds_after}
 use Rattle.formula.proofs.ProperFormula.{proper}
 use Rattle.game.proofs.OpeningFits.{too_short, long_enough, never_both, same_ok}
 use Rattle.layout.specs.Begun.{Begun}

@@ -1,9 +1,8 @@
-use Rattle.std.proofs.Common.{◌≡◌, ℕ, ◌+◌, ◌<◌, ◌≤◌, length, get_or, take, drop, sym, refl, ap, ◌∙◌, arith, rules}
+use Rattle.std.proofs.Common.{◌≡◌, ◌<◌, ◌≤◌, length, take, ap, arith, rules}
 use Rattle.std.proofs.lemmas.List.{at_drop_all, drop_more, get_or-take, length-take, length-take-le}
 use Rattle.formula.specs.Lists.{each}
 use Rattle.formula.specs.Model.{bound_in}
-use Rattle.layout.specs.declared.game.Level.{Level}
-use Rattle.layout.specs.Table.{nought, level_of}
+use Rattle.layout.specs.Table.{nought}
 use Rattle.layout.specs.Viewed.{variables_in}
 use Rattle.game.proofs.refusals.bound_variables.Goals as goal
 

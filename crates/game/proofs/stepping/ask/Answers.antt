@@ -1,10 +1,9 @@
-use Rattle.std.proofs.Common.{◌≡◌, ℕ, ◌-◌, ◌≤◌, List, length, take, ℤ, sym, ap, ◌∙◌, subst, ap₂, arith, rules}
+use Rattle.std.proofs.Common.{◌≡◌, ℕ, ◌-◌, ◌≤◌, List, length, take, ℤ, ap, ◌∙◌, subst, ap₂, arith, rules}
 use native.Mathlib.Nat.{sub-zero}
 use Rattle.engine.specs.Meaning.{Asked, Refused, Given}
 use Rattle.layout.specs.declared.game.Game.{Game}
 use Rattle.layout.specs.Table.{level_of}
 use Rattle.layout.specs.Viewed.{signals_of}
-use Rattle.strategy.specs.Records.{assumptions}
 use Rattle.game.proofs.Replied.{question, never_refused, replied}
 use Rattle.game.proofs.stepping.ask.Goals as goal
 

@@ -1,4 +1,4 @@
-use Rattle.std.proofs.Common.{◌≡◌, ◌≤◌, length, refl, arith}
+use Rattle.std.proofs.Common.{refl, arith}
 use Rattle.layout.specs.Viewed.{clauses_of}
 use Rattle.rules.specs.Changes.{with_verdict}
 use Rattle.rules.proofs.Noted.{length_clauses}

@@ -1,4 +1,4 @@
-use Rattle.std.proofs.Common.{◌≡◌, Bool, false, List, replicate, ap}
+use Rattle.std.proofs.Common.{Bool, false, List, replicate, ap}
 use Rattle.layout.specs.declared.game.Level.{Level}
 use Rattle.layout.proofs.begin.new_level.Goals as goal
 

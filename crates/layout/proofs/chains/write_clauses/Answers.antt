@@ -1,6 +1,5 @@
-use Rattle.std.proofs.Common.{◌≡◌, ◌<◌, [], length, get_or, drop, sym, ap, ◌∙◌, subst, arith}
+use Rattle.std.proofs.Common.{length, sym, ◌∙◌, arith}
 use Rattle.std.proofs.lemmas.List.{at_drop_all}
-use Rattle.pool.specs.Append.{Room}
 use Rattle.formula.specs.Model.{qbf}
 use Rattle.layout.specs.Laying.{laid}
 use Rattle.layout.specs.Places.{laid_as}

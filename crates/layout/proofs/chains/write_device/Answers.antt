@@ -1,4 +1,4 @@
-use Rattle.std.proofs.Common.{◌≡◌, ℕ, ◌+◌, ◌<◌, ◌≤◌, Bool, List, [], ◌∷◌, length, get_or, drop, ℤ, pos, neg_ℤ, nat_abs, sym, refl, ap, ◌∙◌, subst, arith, w32, SFits, to_z, of_z, rules}
+use Rattle.std.proofs.Common.{◌≡◌, ℕ, ◌≤◌, Bool, [], ◌∷◌, length, get_or, ℤ, pos, neg_ℤ, nat_abs, sym, ap, ◌∙◌, subst, arith, w32, SFits, to_z, of_z, rules}
 use Rattle.std.proofs.lemmas.List.{at_drop_all}
 use Rattle.strategy.specs.Signals.{b_signal}
 use Rattle.formula.specs.declared.formula.Formula.{Formula}
@@ -6,7 +6,7 @@ use Rattle.std.proofs.lemmas.Int.{to_z-of_z}
 use Rattle.formula.specs.Lists.{elem, keep, each}
 use Rattle.formula.specs.Model.{qbf, level_at}
 use Rattle.pool.specs.Append.{Room}
-use Rattle.layout.specs.Laying.{Laid, lay, laid, Enough}
+use Rattle.layout.specs.Laying.{lay, laid, Enough}
 use Rattle.layout.specs.Places.{laid_as}
 use Rattle.layout.specs.Opening.{device_record}
 use Rattle.formula.proofs.ProperFormula.{proper}

@@ -1,4 +1,4 @@
-use Rattle.std.proofs.Common.{◌≡◌, List, [], ◌∷◌, length, drop, nat_abs}
+use Rattle.std.proofs.Common.{◌≡◌, length, drop, nat_abs}
 use Rattle.formula.specs.Lists.{keep, elem, each}
 use Rattle.formula.specs.Model.{qbf, level_at}
 use Rattle.layout.specs.Laying.{laid, Enough}

@@ -1,7 +1,6 @@
-use Rattle.std.proofs.Common.{◌≡◌, ℕ, ◌+◌, ◌*◌, ◌≤◌, length, sym, ap, ◌∙◌, subst, arith}
+use Rattle.std.proofs.Common.{◌≡◌, ◌+◌, ◌*◌, sym, ap, ◌∙◌, arith}
 use Rattle.formula.specs.Model.{qbf, level_at}
 use Rattle.strategy.specs.Records.{literals_on}
-use Rattle.formula.specs.declared.side.Side.TheVariants.{Device}
 use Rattle.layout.specs.Laying.{words_for}
 use Rattle.layout.specs.Opening.{clause_records}
 use Rattle.layout.proofs.Counted.{words_of_pairs, length_of_front}

@@ -1,4 +1,4 @@
-use Rattle.std.proofs.Common.{◌≡◌, ℕ, ◌+◌, ◌≤◌, length, replicate, None, sym, refl, ap, ◌∙◌, subst, arith}
+use Rattle.std.proofs.Common.{◌≡◌, length, replicate, None, sym, ap, ◌∙◌, subst, arith}
 use Rattle.formula.specs.Model.{qbf}
 use Rattle.layout.specs.Laying.{Laid, laid, laid_chains, EnoughChains}
 use Rattle.layout.specs.Places.{laid_as}

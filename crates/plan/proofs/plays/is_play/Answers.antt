@@ -1,6 +1,5 @@
-use Rattle.std.proofs.Common.{◌≡◌, ◌<◌, ◌≤◌, length, take, drop, sym, refl, ap, ◌∙◌, arith}
-use Rattle.std.proofs.lemmas.List.{drop_all, length-take-le}
-use Rattle.layout.specs.Shown.{variables_at, levels_of}
+use Rattle.std.proofs.Common.{◌<◌, length, sym, ◌∙◌, arith}
+use Rattle.layout.specs.Shown.{variables_at}
 use Rattle.plan.proofs.Playing.{play_short, play_more, play_breaks, play_end}
 use Rattle.plan.proofs.plays.is_play.Goals as goal
 

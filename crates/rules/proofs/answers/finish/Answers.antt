@@ -1,4 +1,4 @@
-use Rattle.std.proofs.Common.{◌≡◌, ℕ, ◌-◌, ◌<◌, ◌≤◌, Bool, false, List, length, get_or, take, ℤ, pos, sym, refl, ap, ◌∙◌, subst, ap₂, arith}
+use Rattle.std.proofs.Common.{◌≡◌, ℕ, ◌-◌, ◌≤◌, Bool, false, length, get_or, take, pos, sym, ap, ◌∙◌, subst}
 use native.Mathlib.Nat.{sub-zero}
 use lib.Signed.{lt_z}
 use Rattle.formula.specs.Game.{Values}
@@ -8,7 +8,7 @@ use Rattle.strategy.specs.Records.{values_of}
 use Rattle.strategy.specs.Steps.{last_entry_set}
 use Rattle.layout.specs.Table.{level_of}
 use Rattle.layout.specs.Viewed.{variables_in, values_in, clauses_of}
-use Rattle.rules.specs.Changes.{Held, values_to, flags_for, noted}
+use Rattle.rules.specs.Changes.{Held, values_to, noted}
 use Rattle.rules.specs.Spare.{SetOf, bound_by}
 use Rattle.rules.proofs.Chosen.{values_kept}
 use Rattle.rules.proofs.Noted.{length_clauses}

@@ -1,4 +1,4 @@
-use Rattle.std.proofs.Common.{◌≡◌, Bool, true, false, length, get_or, drop, ℤ, pos, sym, refl, ap, ◌∙◌, w32, SFits, rules}
+use Rattle.std.proofs.Common.{◌≡◌, Bool, true, false, get_or, ℤ, pos, sym, ap, ◌∙◌, w32, SFits, rules}
 use Rattle.std.proofs.lemmas.List.{at_drop_all}
 use Rattle.std.proofs.lemmas.Int.{to_z-of_z}
 use Rattle.formula.specs.Lists.{any}

@@ -1,10 +1,10 @@
-use Rattle.std.proofs.Common.{◌≡◌, ℕ, ◌-◌, ◌<◌, ◌≤◌, Bool, true, false, List, [], ◌∷◌, length, ℤ, sym, refl, ap, ◌∙◌, subst, arith}
+use Rattle.std.proofs.Common.{◌≡◌, ◌-◌, ◌<◌, true, [], ◌∷◌, length, sym, refl, ap, ◌∙◌, subst, arith}
 use Rattle.std.proofs.lemmas.List.{length-set}
 use Rattle.formula.specs.Backward.{onto, turned}
 use Rattle.strategy.proofs.ListPlaces.{length-onto}
 use Rattle.pool.specs.Records.{records, Sound}
 use Rattle.pool.specs.Chains.{records_of}
-use Rattle.layout.specs.Viewed.{values_in, clauses_of, signals_of}
+use Rattle.layout.specs.Viewed.{values_in, clauses_of}
 use Rattle.rules.proofs.Marked.{none_above, miss_above, miss_under, hit_above, hit_under}
 use Rattle.rules.proofs.hits.mark_hits.Goals as goal
 

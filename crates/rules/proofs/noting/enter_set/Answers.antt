@@ -1,4 +1,4 @@
-use Rattle.std.proofs.Common.{◌+◌, length, take, sym, ap, ◌∙◌, subst}
+use Rattle.std.proofs.Common.{length, take, sym, ap, ◌∙◌, subst}
 use native.Mathlib.Nat.{sub-zero}
 use Rattle.pool.specs.Append.{Room}
 use Rattle.layout.specs.Table.{level_of}

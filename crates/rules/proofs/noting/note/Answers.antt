@@ -1,6 +1,6 @@
-use Rattle.std.proofs.Common.{◌≡◌, ◌-◌, ◌<◌, ◌≤◌, length, sym, ap, ◌∙◌, subst, arith}
+use Rattle.std.proofs.Common.{◌≡◌, ◌-◌, length, sym, ap, ◌∙◌, arith}
 use Rattle.layout.specs.Viewed.{values_in, clauses_of}
-use Rattle.rules.specs.Changes.{Held, entered, learned, present_at}
+use Rattle.rules.specs.Changes.{Held, learned, present_at}
 use Rattle.rules.proofs.Noted.{length_clauses, entry_room, after_entry, noted_later}
 use Rattle.rules.proofs.noting.note.Goals as goal
 

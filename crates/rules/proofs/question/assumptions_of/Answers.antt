@@ -1,11 +1,10 @@
-use Rattle.std.proofs.Common.{◌≡◌, ℕ, ◌+◌, ◌<◌, ◌≤◌, Bool, true, false, List, [], ◌∷◌, ◌++◌, length, get_or, take, drop, ℤ, pos, neg_ℤ, sym, refl, ap, ◌∙◌, arith, w32, SFits, rules}
+use Rattle.std.proofs.Common.{ℕ, ◌<◌, Bool, false, ◌++◌, length, get_or, take, ℤ, pos, neg_ℤ, sym, refl, ap, ◌∙◌, arith, w32, SFits, rules}
 use Rattle.std.proofs.lemmas.List.{length-set, at_drop_all}
 use Rattle.std.proofs.lemmas.Int.{to_z-of_z}
 use Rattle.formula.specs.Lists.{keep, each, below}
 use Rattle.formula.proofs.Ranges.{length_from}
 use Rattle.strategy.specs.Signals.{signal}
-use Rattle.strategy.specs.Records.{assumptions}
-use Rattle.strategy.specs.Questions.{assumed, assumed_clauses}
+use Rattle.strategy.specs.Questions.{assumed}
 use Rattle.layout.proofs.Keeping.{passed, failed, pushed, none_left}
 use Rattle.rules.proofs.question.assumptions_of.Goals as goal
 

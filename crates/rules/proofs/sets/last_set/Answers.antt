@@ -1,8 +1,7 @@
-use Rattle.std.proofs.Common.{◌≡◌, ℕ, ◌+◌, ◌<◌, ◌≤◌, Bool, true, false, not, ◌&&◌, ◌||◌, List, [], ◌∷◌, ◌++◌, length, get_or, take, replicate, sym, refl, ap, ◌∙◌, arith}
+use Rattle.std.proofs.Common.{◌≡◌, ℕ, ◌<◌, Bool, true, false, not, ◌&&◌, ◌||◌, [], ◌++◌, length, get_or, take, sym, refl, ap, ◌∙◌, arith}
 use Rattle.std.proofs.lemmas.List.{length-set, at_drop_all}
 use Rattle.formula.specs.Lists.{keep, below}
 use Rattle.formula.specs.Game.{hits}
-use Rattle.formula.specs.Backward.{turned}
 use Rattle.formula.proofs.Ranges.{length_from, keep_same}
 use Rattle.strategy.proofs.ListPlaces.{length-onto}
 use Rattle.pool.specs.Records.{records}

@@ -1,7 +1,5 @@
-use Rattle.std.proofs.Common.{◌≡◌, ℕ, ◌≤◌, false, not, ◌&&◌, ◌++◌, length, get_or, take, drop}
+use Rattle.std.proofs.Common.{◌≡◌, ◌≤◌, false, not, ◌&&◌, ◌++◌, length, get_or, take, drop}
 use Rattle.formula.specs.Lists.{keep, below}
-use Rattle.formula.specs.Game.{hits}
-use Rattle.layout.specs.Viewed.{values_in, clauses_of}
 use Rattle.rules.proofs.sets.last_set.Given as goal
 
 abbrev pub invariant-loop-i : goal.invariant-loop-i

@@ -1,4 +1,4 @@
-use Rattle.std.proofs.Common.{◌≡◌, ℕ, ◌≤◌, false, ◌++◌, length, get_or, take, drop}
+use Rattle.std.proofs.Common.{◌≡◌, ◌≤◌, false, ◌++◌, length, get_or, take, drop}
 use Rattle.formula.specs.Lists.{keep, each}
 use Rattle.strategy.specs.Questions.{clause_of}
 use Rattle.rules.specs.Naming.{wanted}

@@ -1,7 +1,7 @@
-use Rattle.std.proofs.Common.{◌≡◌, ◌+◌, ◌<◌, ◌≤◌, true, false, length, get_or, drop, ℤ, pos, nat_abs, sym, refl, ap, ◌∙◌, arith, w32, SFits, rules}
+use Rattle.std.proofs.Common.{◌≡◌, ◌+◌, false, get_or, drop, pos, nat_abs, sym, ap, ◌∙◌, arith, w32, SFits, rules}
 use Rattle.std.proofs.lemmas.List.{drop_all}
 use Rattle.std.proofs.lemmas.Int.{to_z-of_z}
-use Rattle.soundness.specs.Forms.{is_signed, are_signals}
+use Rattle.soundness.specs.Forms.{are_signals}
 use Rattle.soundness.proofs.Forming.{signals_more, signals_sign, signals_low, signals_high}
 use Rattle.soundness.proofs.entries.are_signals.Goals as goal
 use Rattle.soundness.proofs.entries.are_signals.Goals.{then-not-is_signed-via-then-not-is_signed, then-not-is_signed-via-else-not-is_signed+then-signal-last, then-not-is_signed-via-else-not-is_signed+else-signal-last+then-signal-top}

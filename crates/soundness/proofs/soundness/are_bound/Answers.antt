@@ -1,8 +1,7 @@
-use Rattle.std.proofs.Common.{◌≡◌, true, false, get_or, drop, ℤ, pos, nat_abs, Decides, refl, subst, w32, SFits, rules}
+use Rattle.std.proofs.Common.{true, false, get_or, drop, ℤ, pos, nat_abs, Decides, refl, subst, w32, SFits, rules}
 use Rattle.std.proofs.lemmas.List.{drop_more, drop_all}
 use Rattle.std.proofs.lemmas.Int.{to_z-of_z}
 use Rattle.std.proofs.lemmas.Bool.{false≢true}
-use Rattle.formula.specs.Lists.{All}
 use Rattle.formula.specs.Proper.{Bound}
 use Rattle.layout.specs.Shown.{levels_of}
 use Rattle.soundness.proofs.Rows.{all_next, all_broken, all_done}

@@ -1,4 +1,4 @@
-use Rattle.std.proofs.Common.{◌≡◌, ℕ, ◌<◌}
+use Rattle.std.proofs.Common.{ℕ, ◌<◌}
 use Rattle.soundness.specs.Soundness.{SoundLevel}
 use Rattle.soundness.proofs.soundness.is_sound.Given as goal
 
