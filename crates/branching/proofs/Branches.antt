@@ -1,7 +1,7 @@
 -- A branch: a signal that is open is given either value. Assumes nothing.
 use Rattle.std.proofs.Common.{◌≡◌, ℕ, suc, ◌+◌, ◌-◌, ◌<◌, ◌≤◌, Bool, true, false, not, ◌⊎◌, List, length, get_or, take, set, ℤ, pos, nat_abs, Some, sym, refl, ap, ◌∙◌, subst, ⊎_elim, arith}
 use lib.Seq.{take-set-lt}
-use Rattle.std.specs.List.{AllByRecursion as All}
+use Rattle.std.specs.List.{AllByRecursion}
 use Rattle.std.proofs.lemmas.List.{length-set, set-set, set-get_or, get_or-set_same, get_or-set_other, take-take, take-set-le}
 use Rattle.std.proofs.lemmas.Bool.{cases_eq, cases_order, both_ways}
 use Rattle.engine.specs.Truth.{literal, chain}
@@ -21,8 +21,8 @@ pub record Fork (s : ℕ) (cs : List (List ℤ)) (row₀ : List ℤ) (trail₀ :
   pub grown : Grown cs row₀ trail₀ mark row trail top
   pub within : i < length row
   pub unset : nat_abs (at row i) ≡ 0
-  pub behind : All (From row i) cs
-  pub heard : All (Silent row i) cs → ⊥
+  pub behind : AllByRecursion (From row i) cs
+  pub heard : AllByRecursion (Silent row i) cs → ⊥
   pub long : length row ≡ length row₀
   pub wide : length trail ≡ length trail₀
 
@@ -98,10 +98,10 @@ module _ {s : ℕ} {cs : List (List ℤ)} {row₀ : List ℤ} {trail₀ : List �
   branch_stays v k h shut = get_or-set_other row i k (sign v i) (pos 0) (λ (same : k ≡ i). shut (ap (λ j. nat_abs (at row j)) same ∙ fork.unset))
 
   -- a signal that is open and named by no record without a true number is false in the end
-  branch_quiet : (v : Bool) (row' : List ℤ) → Met cs (set row i (sign v i)) row' → (j : ℕ) → j < length row → nat_abs (at row j) ≡ 0 → All (Silent row j) cs → at row' j ≡ sign false j
+  branch_quiet : (v : Bool) (row' : List ℤ) → Met cs (set row i (sign v i)) row' → (j : ℕ) → j < length row → nat_abs (at row j) ≡ 0 → AllByRecursion (Silent row j) cs → at row' j ≡ sign false j
   branch_quiet v row' met j h open' silent =
       let size = length-set row i (sign v i) in
-      let apart : j ≡ i → ⊥ = λ same. fork.heard (subst (λ k. All (Silent row k) cs) same silent) in
+      let apart : j ≡ i → ⊥ = λ same. fork.heard (subst (λ k. AllByRecursion (Silent row k) cs) same silent) in
       met.quiet j (omega arith) (ap nat_abs (get_or-set_other row i j (sign v i) (pos 0) apart) ∙ open') (silent_stays row (set row i (sign v i)) size (branch_stays v) j cs silent)
 
   -- the value of the branch's signal in the end

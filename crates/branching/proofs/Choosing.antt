@@ -1,6 +1,6 @@
 -- The lowest open signal of the records that are not yet true. Assumes nothing.
 use Rattle.std.proofs.Common.{◌≡◌, ℕ, zero, suc, ◌+◌, ◌-◌, ◌<◌, ◌≤◌, min, Bool, true, false, ◌⊎◌, List, [], ◌∷◌, length, get_or, ℤ, pos, nat_abs, sym, refl, ap, ◌∙◌, subst, inl, inr, ⊎_elim, le_trans, arith}
-use Rattle.std.specs.List.{AllByRecursion as All}
+use Rattle.std.specs.List.{AllByRecursion}
 use Rattle.std.proofs.lemmas.Bool.{and_from, or_left, or_right, both_ways}
 use Rattle.engine.specs.Truth.{literal, clause, chain}
 use Rattle.propagation.specs.Rows.{at, word_of, Shaped, Agrees}
@@ -59,7 +59,7 @@ holding_from row m xs h alive from =
     alive)
     from
 
-pub all_holding : (row : List ℤ) (m : ℕ) (cs : List (List ℤ)) → length row ≤ m → All (Alive row) cs → All (From row m) cs → All (Holding row) cs
+pub all_holding : (row : List ℤ) (m : ℕ) (cs : List (List ℤ)) → length row ≤ m → AllByRecursion (Alive row) cs → AllByRecursion (From row m) cs → AllByRecursion (Holding row) cs
 all_holding row m [] h alive from = tt
 all_holding row m (c ∷ cs) h alive from = (holding_from row m c h alive.0 from.0, all_holding row m cs h alive.1 from.1)
 
@@ -75,7 +75,7 @@ clause_holding row a (x ∷ xs) (suc k) true' agrees =
     let h = true'.0 in
     or_right (literal a x) (clause a xs) (clause_holding row a xs k (omega arith, true'.1, true'.2) agrees)
 
-pub chain_holding : (row : List ℤ) (a : ℕ → Bool) (cs : List (List ℤ)) → All (Holding row) cs → Agrees row a → chain a cs ≡ true
+pub chain_holding : (row : List ℤ) (a : ℕ → Bool) (cs : List (List ℤ)) → AllByRecursion (Holding row) cs → Agrees row a → chain a cs ≡ true
 chain_holding row a [] holds agrees = refl
 chain_holding row a (c ∷ cs) holds agrees = and_from (clause a c) (chain a cs) (clause_holding row a c holds.0.0 holds.0.1 agrees) (chain_holding row a cs holds.1 agrees)
 
@@ -107,7 +107,7 @@ module _ (row after : List ℤ) (long : length after ≡ length row) (completed 
       both_ways (b (suc k)) no' (value ∙ ap positive (sym kept.1) ∙ yes'))
       (completed k inside)
 
-  pub met_completed : (cs : List (List ℤ)) (row₀ : List ℤ) (trail₀ : List ℕ) (mark : ℕ) (trail : List ℕ) (top : ℕ) → Grown cs row₀ trail₀ mark row trail top → All (Holding row) cs → Met cs row₀ after
+  pub met_completed : (cs : List (List ℤ)) (row₀ : List ℤ) (trail₀ : List ℕ) (mark : ℕ) (trail : List ℕ) (top : ℕ) → Grown cs row₀ trail₀ mark row trail top → AllByRecursion (Holding row) cs → Met cs row₀ after
   met_completed cs row₀ trail₀ mark trail top grown holds =
       let shaped = grown.noted.shaped in
       record {

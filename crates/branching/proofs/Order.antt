@@ -1,6 +1,6 @@
 -- Rows as assignments, in order. Assumes nothing.
 use Rattle.std.proofs.Common.{◌≡◌, ℕ, zero, suc, ◌+◌, ◌-◌, ◌<◌, ◌≤◌, Bool, true, false, cond, not, ◌⊎◌, List, [], ◌∷◌, length, ℤ, pos, negsuc, nat_abs, sym, refl, ap, ◌∙◌, subst, inl, inr, ⊎_elim, add-one, arith}
-use Rattle.std.specs.List.{AllByRecursion as All}
+use Rattle.std.specs.List.{AllByRecursion}
 use Rattle.std.proofs.lemmas.Bool.{not-true, cases_lt}
 use Rattle.engine.specs.Truth.{literal}
 use Rattle.engine.specs.Count.{number}
@@ -78,7 +78,7 @@ pub number_first : (row : List ℤ) (b : ℕ → Bool) (s : ℕ) → s ≤ lengt
 number_first row b s h later = ⊎_elim (λ same. let e = same.1 in omega arith) (λ less. omega arith) (order_step row b later s h)
 
 -- signals before the chosen one that are open are named by no record without a true number
-pub silent_before : (row : List ℤ) (i j : ℕ) (cs : List (List ℤ)) → j < i → nat_abs (at row j) ≡ 0 → All (From row i) cs → All (Silent row j) cs
+pub silent_before : (row : List ℤ) (i j : ℕ) (cs : List (List ℤ)) → j < i → nat_abs (at row j) ≡ 0 → AllByRecursion (From row i) cs → AllByRecursion (Silent row j) cs
 silent_before row i j [] h open' all = tt
 silent_before row i j (c ∷ cs) h open' all = (
   ⊎_elim (λ holds. inl holds)

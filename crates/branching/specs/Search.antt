@@ -1,6 +1,6 @@
 -- What the search comes to: a choice of a signal, a complete row, the assumptions that were used. Assumes nothing.
 use Rattle.std.specs.Prelude.{◌≡◌, ℕ, suc, ◌+◌, ◌-◌, ◌<◌, ◌≤◌, Bool, true, false, cond, ◌⊎◌, List, [], ◌∷◌, length, take, ℤ, pos, negsuc, Some, None, Option, ◌≢◌, slice_index_or, unsigned_abs}
-use Rattle.std.specs.List.{AllByRecursion as All}
+use Rattle.std.specs.List.{AllByRecursion}
 use Rattle.engine.specs.Truth.{each, chain}
 use Rattle.engine.specs.Meaning.{Meets, Clash, values}
 use Rattle.engine.specs.Count.{number}
@@ -36,7 +36,7 @@ pub record Met (cs : List (List ℤ)) (row₀ row : List ℤ) : Type 0 where
   pub extends : (a : ℕ → Bool) → Agrees row a → Agrees row₀ a
   pub meets : (a : ℕ → Bool) → Agrees row a → chain a cs ≡ true
   pub long : length row ≡ length row₀
-  pub quiet : (j : ℕ) → j < length row₀ → unsigned_abs (at row₀ j) ≡ 0 → All (Silent row₀ j) cs → at row j ≡ sign false j
+  pub quiet : (j : ℕ) → j < length row₀ → unsigned_abs (at row₀ j) ≡ 0 → AllByRecursion (Silent row₀ j) cs → at row j ≡ sign false j
   pub first : (b : ℕ → Bool) → chain b cs ≡ true → Agrees row₀ b → NotBefore row b
 
 -- the lower of `best` and the open signals of a record that has no true number
@@ -45,8 +45,8 @@ Lowest row xs best low = (low ≤ best) × ((low ≡ best) ⊎ ((low < length ro
 
 -- the lowest open signal of the records with no true number; none where each has one
 abbrev pub Chosen : List (List ℤ) → List ℤ → Option ℕ → Type 0
-Chosen cs row (Some i) = (i < length row) × (unsigned_abs (at row i) ≡ 0) × All (From row i) cs × (All (Silent row i) cs → ⊥)
-Chosen cs row None = All (Holding row) cs
+Chosen cs row (Some i) = (i < length row) × (unsigned_abs (at row i) ≡ 0) × AllByRecursion (From row i) cs × (AllByRecursion (Silent row i) cs → ⊥)
+Chosen cs row None = AllByRecursion (Holding row) cs
 
 -- the open signals have become false
 abbrev pub Completed : List ℤ → List ℤ → Type 0

@@ -1,7 +1,7 @@
 // Which signal to branch on: the lowest open one that a record which is not yet true names.
 // Where every record is true, the signals that are still open become false.
 ghost use Rattle.std.specs.Prelude.{◌≡◌, ℕ, ◌<◌, ◌≤◌, length};
-ghost use Rattle.std.specs.List.{AllByRecursion as All};
+ghost use Rattle.std.specs.List.{AllByRecursion};
 ghost use Rattle.pool.specs.Records.{Literal};
 ghost use Rattle.pool.specs.Chains.{records_of, signals_of};
 ghost use Rattle.branching.specs.Search.{sign};
@@ -22,7 +22,7 @@ pub(crate) fn signed(i: usize, value: bool) -> i32
 
 // The lower of `best` and the places of a record's open signals, or `best` where the record is true.
 fn lowest(values: &[i32], numbers: &[i32], best: usize) -> usize
-    requires { All (Literal (length values.now)) numbers.now }
+    requires { AllByRecursion (Literal (length values.now)) numbers.now }
     ensures { Lowest values.now numbers.now best result }
 {
     let mut low = best;
@@ -40,7 +40,7 @@ fn lowest(values: &[i32], numbers: &[i32], best: usize) -> usize
 
 // The place of the signal to branch on; None where every record is true.
 pub(crate) fn choose(chain: Chain, values: &[i32]) -> Option<usize>
-    requires { (signals_of chain ≡ length values.now) × (All (Alive values.now) (records_of chain)) }
+    requires { (signals_of chain ≡ length values.now) × (AllByRecursion (Alive values.now) (records_of chain)) }
     ensures { Chosen (records_of chain.entry) values.now result }
 {
     let mut low = values.len();

@@ -1,7 +1,7 @@
 // The engine: it makes the assumptions true and then searches.
 // To 'no' it names the assumptions whose signals the search marked.
 ghost use Rattle.std.specs.Prelude.{◌≡◌, ℕ, ◌≤◌, ◌++◌, length, drop, replicate, pos};
-ghost use Rattle.std.specs.List.{AllByRecursion as All};
+ghost use Rattle.std.specs.List.{AllByRecursion};
 ghost use Rattle.pool.specs.Records.{Literal};
 ghost use Rattle.pool.specs.Chains.{records_of, signals_of};
 ghost use Rattle.engine.specs.Asking.{asked};
@@ -22,7 +22,7 @@ fn suppose(
     trail: &mut [usize],
     marks: &mut [bool],
 ) -> Option<usize>
-    requires { (All (Literal (length values.old)) assumptions.now) × ((values.old ≡ replicate (length values.old) (pos 0)) × ((length values.old ≤ length trail.old) × (length values.old ≤ length marks.old))) }
+    requires { (AllByRecursion (Literal (length values.old)) assumptions.now) × ((values.old ≡ replicate (length values.old) (pos 0)) × ((length values.old ≤ length trail.old) × (length values.old ≤ length marks.old))) }
     ensures { Supposed assumptions.now values.new trail.new marks.new result }
 {
     let mut top = 0;
@@ -48,7 +48,7 @@ fn solve(
     trail: &mut [usize],
     marks: &mut [bool],
 ) -> bool
-    requires { (signals_of chain ≤ length values.old) × ((signals_of chain ≤ length trail.old) × ((signals_of chain ≤ length marks.old) × ((length marks.old ≤ 1280) × (All (Literal (signals_of chain)) assumptions.now)))) }
+    requires { (signals_of chain ≤ length values.old) × ((signals_of chain ≤ length trail.old) × ((signals_of chain ≤ length marks.old) × ((length marks.old ≤ 1280) × (AllByRecursion (Literal (signals_of chain)) assumptions.now)))) }
     ensures { Solved (signals_of chain.entry) (records_of chain.entry) assumptions.now values.new marks.new result }
 {
     let s = chain.signals();
@@ -63,7 +63,7 @@ fn solve(
 
 // Writes the assumptions whose signals are marked, in order, and says how many these are.
 fn write_used(assumptions: &[i32], marks: &[bool], out: &mut [i32]) -> usize
-    requires { (All (Literal (length marks.now)) assumptions.now) × (length assumptions.now ≤ length out.old) }
+    requires { (AllByRecursion (Literal (length marks.now)) assumptions.now) × (length assumptions.now ≤ length out.old) }
     ensures count { result ≡ length (used marks.now assumptions.now) }
     ensures words { out.new ≡ used marks.now assumptions.now ++ drop result out.old }
 {

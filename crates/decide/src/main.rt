@@ -4,11 +4,11 @@
 mod faults;
 mod show;
 
-use anyhow::anyhow;
 use faults::FaultText;
 use reader::{position_of, read};
 use show::print_formula;
 use std::io::Read;
+use std::process::ExitCode;
 
 // Whether the text was a formula.
 fn run(rt: &HostRuntime) -> anyhow::Result<bool> {
@@ -33,10 +33,10 @@ fn run(rt: &HostRuntime) -> anyhow::Result<bool> {
 }
 
 // The process ends with status 1 where the text is refused.
-fn main(rt: HostRuntime) -> anyhow::Result<()> {
-    match run(&rt) {
-        Ok(true) => Ok(()),
-        Ok(false) => Err(anyhow!("refused")),
-        Err(error) => Err(error),
+fn main(rt: HostRuntime) -> anyhow::Result<ExitCode> {
+    if run(&rt)? {
+        Ok(ExitCode::SUCCESS)
+    } else {
+        Ok(ExitCode::FAILURE)
     }
 }

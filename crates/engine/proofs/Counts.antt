@@ -1,6 +1,6 @@
 -- What a search through all numbers finds. Assumes nothing.
 use Rattle.std.proofs.Common.{◌≡◌, ℕ, ◌≤◌, Bool, List, ℤ, Some, None, Option, sym, subst, ⊎_elim, arith}
-use Rattle.std.specs.List.{AllByRecursion as All}
+use Rattle.std.specs.List.{AllByRecursion}
 use Rattle.std.proofs.lemmas.Bool.{cases_lt}
 use Rattle.pool.specs.Records.{Literal}
 use Rattle.engine.specs.Meaning.{Meets, Clash}
@@ -8,7 +8,7 @@ use Rattle.engine.specs.Count.{Least, number, numbered}
 use Rattle.engine.proofs.Agree.{meets_same}
 use Rattle.engine.proofs.Numbers.{number_below, numbered_number, number_numbered}
 
-module _ (s : ℕ) (records : List (List ℤ)) (named : List ℤ) (literals : All (All (Literal s)) records) (literals' : All (Literal s) named) where
+module _ (s : ℕ) (records : List (List ℤ)) (named : List ℤ) (literals : AllByRecursion (AllByRecursion (Literal s)) records) (literals' : AllByRecursion (Literal s) named) where
   -- an assignment that meets the question does so by its number
   by_number : (b : ℕ → Bool) → Meets records named b → Meets records named (numbered s (number b s))
   by_number b meets = meets_same b (numbered s (number b s)) s (λ i h k. sym (numbered_number b s i h k)) records named literals literals' meets

@@ -1,6 +1,6 @@
 -- Some elements of a list, in its order. Assumes nothing.
 use Rattle.std.proofs.Common.{◌≡◌, ℕ, ◌≤◌, Bool, true, List, [], ◌∷◌, length, ℤ, refl, arith}
-use Rattle.std.specs.List.{AllByRecursion as All}
+use Rattle.std.specs.List.{AllByRecursion}
 use Rattle.std.proofs.lemmas.Bool.{and_parts, and_from}
 use Rattle.engine.specs.Truth.{literal, each}
 use Rattle.engine.specs.Meaning.{Clash, Part}
@@ -21,7 +21,7 @@ part_length none = omega arith
 part_length (keep p) = let h = part_length p in omega arith
 part_length (leave p) = let h = part_length p in omega arith
 
-pub part_every : (P : ℤ → Type 0) {xs ys : List ℤ} → Part xs ys → All P ys → All P xs
+pub part_every : (P : ℤ → Type 0) {xs ys : List ℤ} → Part xs ys → AllByRecursion P ys → AllByRecursion P xs
 part_every P none h = tt
 part_every P (keep p) h = (h.0, part_every P p h.1)
 part_every P (leave p) h = part_every P p h.1

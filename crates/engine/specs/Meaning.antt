@@ -1,6 +1,6 @@
 -- Questions to an engine, and which answers and refusals are right. Assumes nothing.
 use Rattle.std.specs.Prelude.{◌≡◌, ℕ, zero, suc, ◌<◌, ◌≤◌, Bool, true, cond, List, [], ◌∷◌, ◌++◌, length, drop, ℤ, pos, negsuc, Ok, Err, Result}
-use Rattle.std.specs.List.{AllByRecursion as All}
+use Rattle.std.specs.List.{AllByRecursion}
 use Rattle.pool.specs.Records.{records, Literal, Sound}
 use Rattle.engine.specs.declared.question.Answer.{Answer}
 use Rattle.engine.specs.declared.question.Answer.TheVariants.{Yes, No}
@@ -22,7 +22,7 @@ clauses q = records q.words q.first
 -- the chain is sound, and the assumptions name signals and are no more than these
 pub record Proper (q : Asked) : Type 0 where
   pub sound : Sound q.signals q.words q.in_use q.first
-  pub literals : All (Literal q.signals) q.assumed
+  pub literals : AllByRecursion (Literal q.signals) q.assumed
   pub few : length q.assumed ≤ q.signals
 
 -- an assignment makes every record and every number of a list true

@@ -1,7 +1,7 @@
 // An engine that tries one assignment after another, for up to 24 signals.
 // It gives the first one in order, signal 1 leading and false before true, and to 'no' names all assumptions.
 ghost use Rattle.std.specs.Prelude.{◌≡◌, ℕ, ◌<◌, ◌≤◌, ◌++◌, length, drop};
-ghost use Rattle.std.specs.List.{AllByRecursion as All};
+ghost use Rattle.std.specs.List.{AllByRecursion};
 ghost use Rattle.pool.specs.Records.{Literal};
 ghost use Rattle.pool.specs.Chains.{records_of, signals_of};
 ghost use Rattle.engine.specs.Asking.{asked};
@@ -26,7 +26,7 @@ fn holds(s: usize, n: u32, x: i32) -> bool
 
 // The first assignment that makes the records and the assumptions true.
 fn least(chain: Chain, assumptions: &[i32]) -> Option<u32>
-    requires { (signals_of chain ≤ 24) × (All (Literal (signals_of chain)) assumptions.now) }
+    requires { (signals_of chain ≤ 24) × (AllByRecursion (Literal (signals_of chain)) assumptions.now) }
     ensures { Least (signals_of chain.entry) (records_of chain.entry) assumptions.now result }
 {
     let s = chain.signals();

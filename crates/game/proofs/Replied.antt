@@ -1,10 +1,10 @@
 -- The question about the present level is never refused, and an answer to it is one of the theory.
 use Rattle.std.proofs.Common.{◌≡◌, ℕ, zero, suc, ◌+◌, ◌-◌, ◌*◌, ◌<◌, ◌≤◌, Bool, false, cond, List, [], ◌∷◌, length, get_or, take, drop, ℤ, pos, neg_ℤ, nat_abs, sym, refl, ap, ◌∙◌, subst, arith}
 use lib.Signed.{lt_z}
-use Rattle.std.specs.List.{AllByRecursion as All}
+use Rattle.std.specs.List.{AllByRecursion}
 use Rattle.std.proofs.lemmas.Bool.{cond_both}
 use Rattle.formula.specs.Lists.{keep, from, below}
-use Rattle.formula.specs.Lists.{All as Each}
+use Rattle.formula.specs.Lists.{AllByRecursion as Each}
 use Rattle.formula.specs.declared.side.Side.{Side}
 use Rattle.formula.specs.declared.side.Side.TheVariants.{Ours, Device}
 use Rattle.formula.proofs.Maps.{length-each}
@@ -37,7 +37,7 @@ use Rattle.game.specs.Replies.{Replied}
 use Rattle.game.proofs.Replies.{meets_chain, meets_each, clash_unsatisfiable, value_said, part_ascends, part_in}
 
 -- what the question assumes of clauses that satisfy P, by their numbers
-assumed_all : (P : ℤ → Type 0) (n k : ℕ) (σ : Side) → ((i : ℕ) → i < k → P (neg_ℤ (pos (signal n k σ i)))) → (B : List ℕ) → Each (λ i. i < k) B → All P (assumptions n k σ B)
+assumed_all : (P : ℤ → Type 0) (n k : ℕ) (σ : Side) → ((i : ℕ) → i < k → P (neg_ℤ (pos (signal n k σ i)))) → (B : List ℕ) → Each (λ i. i < k) B → AllByRecursion P (assumptions n k σ B)
 assumed_all P n k σ h [] b = tt
 assumed_all P n k σ h (i ∷ B) b = (h i b.0, assumed_all P n k σ h B b.1)
 
@@ -56,7 +56,7 @@ signal_named : (n k : ℕ) (σ : Side) (i : ℕ) → i < k → (base_of n k σ <
 signal_named n k Ours i h = (omega arith, omega arith)
 signal_named n k Device i h = (omega arith, omega arith)
 
-all_at : (P : ℤ → Type 0) (l : List ℤ) → All P l → (j : ℕ) → j < length l → P (get_or l j (pos 0))
+all_at : (P : ℤ → Type 0) (l : List ℤ) → AllByRecursion P l → (j : ℕ) → j < length l → P (get_or l j (pos 0))
 all_at P [] h j b = absurd (omega arith)
 all_at P (x ∷ l) h zero b = h.0
 all_at P (x ∷ l) h (suc j) b = all_at P l h.1 j (omega arith)
@@ -125,7 +125,7 @@ module _ (g : Game) (pool : List ℤ) (limits : Limits g) (sound : SoundPool g p
       let k-few = limits.1 in
       let fits : c ≤ length words = omega (arith, named.few) in
       let P : ℤ → Type 0 = λ l. (base_of n k σ < nat_abs l) × (nat_abs l ≤ base_of n k σ + k) in
-      let all_named : All P names = part_every P named.part (assumed_all P n k σ (signal_named n k σ) (clauses_assumed g) (below_small (assumed σ (before g)) k)) in
+      let all_named : AllByRecursion P names = part_every P named.part (assumed_all P n k σ (signal_named n k σ) (clauses_assumed g) (below_small (assumed σ (before g)) k)) in
       let answer = no_by_names n k σ (before g) (records pool (level_of g g.present).chain) names (part_in named.part) (clash_unsatisfiable (clauses (question g pool)) names named.clash) in
       record {
         readable = (fits, omega (arith, named.few), all_at P names all_named);

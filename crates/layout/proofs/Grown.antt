@@ -1,6 +1,6 @@
 -- Records that are written one after another: their chain is sound and has them, the last in front, and every other chain stays.
 use Rattle.std.proofs.Common.{◌≡◌, ℕ, List, [], ◌∷◌, length, ℤ, sym, refl, ap, ◌∙◌, subst, arith}
-use Rattle.std.specs.List.{AllByRecursion as All}
+use Rattle.std.specs.List.{AllByRecursion}
 use Rattle.formula.specs.Backward.{onto}
 use Rattle.pool.specs.Append.{Room}
 use Rattle.pool.specs.Records.{records, Literal, Sound}
@@ -33,7 +33,7 @@ module _ (S : ℕ) where
       let more = laid_keeps size (lay s xs) c other (long_next size s xs c long e) (enough_next size s xs c e) (other_sound S s.words s.used s.head xs r other sound) in
       (more.0, more.1 ∙ other_records S s.words s.used s.head xs r other sound)
 
-  pub laid_grows : (size : ℕ) (s : Laid) (c : List (List ℤ)) → length s.words ≡ size → Enough size s c → SoundIn S s s.head → All (All (Literal S)) c
+  pub laid_grows : (size : ℕ) (s : Laid) (c : List (List ℤ)) → length s.words ≡ size → Enough size s c → SoundIn S s s.head → AllByRecursion (AllByRecursion (Literal S)) c
       → SoundIn S (laid s c) (laid s c).head × (records (laid s c).words (laid s c).head ≡ onto c (records s.words s.head))
   laid_grows size s [] long e sound named = (sound, refl)
   laid_grows size s (xs ∷ c) long e sound named =

@@ -1,10 +1,10 @@
 -- The game that open has begun shows the state from which games start.
 use Rattle.std.proofs.Common.{◌≡◌, ℕ, zero, suc, ◌+◌, ◌*◌, ◌<◌, ◌≤◌, Bool, false, cond, ◌||◌, List, [], ◌∷◌, ◌++◌, length, get_or, take, set, replicate, ℤ, sym, refl, ap, ◌∙◌, subst, ⊎_elim, append_assoc, zero-add, add-one, arith}
-use Rattle.std.specs.List.{AllByRecursion as All}
+use Rattle.std.specs.List.{AllByRecursion}
 use Rattle.std.proofs.lemmas.List.{append-nil, take_more_set, length-set, length-replicate, get_or-replicate, get_or_past}
 use Rattle.std.proofs.lemmas.Bool.{cond-true, cond-false, cases_lt, eq-eqb, ne_eqb}
 use Rattle.formula.specs.Lists.{keep, each, elem, from}
-use Rattle.formula.specs.Lists.{All as Each}
+use Rattle.formula.specs.Lists.{AllByRecursion as Each}
 use Rattle.formula.specs.Game.{other, Clauses, Qbf}
 use Rattle.formula.specs.Backward.{turned}
 use Rattle.formula.specs.Proper.{Ascending, Proper}
@@ -67,7 +67,7 @@ chain_new C n Ours vs [] = refl
 chain_new C n Ours vs (w ∷ after) = refl
 chain_new C n Device vs after = refl
 
-module _ (C : Clauses) (n : ℕ) (few : n ≤ 256) (named : All (All (Literal (n + 2 * length C))) C) (size : ℕ) where
+module _ (C : Clauses) (n : ℕ) (few : n ≤ 256) (named : AllByRecursion (AllByRecursion (Literal (n + 2 * length C))) C) (size : ℕ) where
   shows_levels : (s : Laid) (σ : Side) (levels : List (List ℕ)) → length s.words ≡ size → EnoughChains size s (level_chains C n σ levels) → Each (Ascending 0 n) levels
       → ShowsFront C n σ (each begun levels) (each (view_level n (laid_chains s (level_chains C n σ levels)).words) (new_levels C n s σ levels))
   shows_levels s σ [] long e a = tt

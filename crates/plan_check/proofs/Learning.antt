@@ -1,6 +1,6 @@
 -- Learned records by their numbers, as flags have them.
 use Rattle.std.proofs.Common.{◌≡◌, ℕ, zero, suc, ◌+◌, ◌*◌, ◌<◌, ◌≤◌, Bool, true, false, cond, T, ◌↔◌, List, [], ◌∷◌, length, get_or, ℤ, pos, negsuc, nat_abs, refl, ap, ◌∙◌, subst, arith}
-use Rattle.std.specs.List.{AllByRecursion as All}
+use Rattle.std.specs.List.{AllByRecursion}
 use Rattle.std.proofs.ByRecursion.{All-get_or}
 use Rattle.std.proofs.lemmas.Bool.{and_parts, leb-true, ltb-true, false≢true}
 use Rattle.formula.specs.Lists.{all, Any, elem}
@@ -27,7 +27,7 @@ all_above n k σ (x ∷ xs) e zero h = above n k σ x (and_parts (is_learned_num
 all_above n k σ (x ∷ xs) e (suc j) h = all_above n k σ xs (and_parts (is_learned_number n k σ x) (all (is_learned_number n k σ) xs) e).1 j (omega arith)
 
 -- learned numbers name clauses
-pub learned_behind : (n k : ℕ) (σ : Side) (xs : List ℤ) → k ≤ 512 → all (is_learned_number n k σ) xs ≡ true → All (Literal (n + 2 * k)) xs → Behind (n + k) xs
+pub learned_behind : (n k : ℕ) (σ : Side) (xs : List ℤ) → k ≤ 512 → all (is_learned_number n k σ) xs ≡ true → AllByRecursion (Literal (n + 2 * k)) xs → Behind (n + k) xs
 learned_behind n k σ xs few e literals j h =
     let r = All-get_or (Literal (n + 2 * k)) xs j (pos 0) h literals in
     (all_above n k σ xs e j h, omega (arith, r.1))

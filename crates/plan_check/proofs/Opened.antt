@@ -1,6 +1,6 @@
 -- The records of a level at open, by the clauses that make them.
 use Rattle.std.proofs.Common.{◌≡◌, ℕ, zero, suc, ◌+◌, ◌-◌, ◌<◌, ◌≤◌, Bool, List, [], ◌∷◌, length, get_or, ℤ, pos, nat_abs, sym, ap, ◌∙◌, subst, ⊎_elim, arith}
-use Rattle.std.specs.List.{AllByRecursion as All}
+use Rattle.std.specs.List.{AllByRecursion}
 use Rattle.std.proofs.ByRecursion.{All-get_or}
 use Rattle.std.proofs.lemmas.Bool.{cases_lt}
 use Rattle.formula.specs.Lists.{In, from}
@@ -42,5 +42,5 @@ module _ (C : Clauses) (n k : ℕ) (σ : Side) (vs : List ℕ) (last : Bool) (co
       ∙ ap (λ m. made_by n m σ vs last (left - 1) clause) count
 
 -- numbers of a chain are small
-pub small_numbers : (s : ℕ) (xs : List ℤ) → s ≤ 1280 → All (Literal s) xs → (j : ℕ) → j < length xs → nat_abs (get_or xs j (pos 0)) ≤ 1280
+pub small_numbers : (s : ℕ) (xs : List ℤ) → s ≤ 1280 → AllByRecursion (Literal s) xs → (j : ℕ) → j < length xs → nat_abs (get_or xs j (pos 0)) ≤ 1280
 small_numbers s xs h all j l = let r = All-get_or (Literal s) xs j (pos 0) l all in omega (arith, r.1)

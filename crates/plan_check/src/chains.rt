@@ -1,6 +1,6 @@
 // Whether the clause chain of a level of the other side has only records that it may have. Levels count from 0.
 ghost use Rattle.std.specs.Prelude.{◌+◌, ◌<◌, Decides};
-ghost use Rattle.std.specs.List.{AllByRecursion as All};
+ghost use Rattle.std.specs.List.{AllByRecursion};
 ghost use Rattle.pool.specs.Records.{records, Literal};
 ghost use Rattle.strategy.specs.Check.{RecordCheck, RecordChecks};
 ghost use Rattle.layout.specs.Table.{level_of};
@@ -17,7 +17,7 @@ use pool::Chain;
 
 // Whether the numbers are a record of the level m, taken as one of the side, at open, or one that it may have learned.
 fn record_holds(game: &Game, pool: &[i32], m: usize, side: Side, numbers: &[i32]) -> bool
-    requires { (Readable game.now pool.now) × ((m < game.now.depth) × (All (Literal (signals_of game.now)) numbers.now)) }
+    requires { (Readable game.now pool.now) × ((m < game.now.depth) × (AllByRecursion (Literal (signals_of game.now)) numbers.now)) }
     ensures { Decides result (RecordCheck (clauses_of game.now pool.now) game.now.variables side (variables_at game.now m) (shown_from game.now pool.now (m + 1)) numbers.now) }
 {
     if is_opening(game, pool, m, side, numbers) {

@@ -8,7 +8,7 @@ ghost use Rattle.layout.specs.Viewed.{signals_of};
 ghost use Rattle.soundness.specs.Soundness.{SoundEntries};
 ghost use Rattle.plan_check.specs.Places.{shown_from};
 ghost use Rattle.plan_check.specs.Readable.{Readable};
-ghost use Rattle.std.specs.List.{AllByRecursion as All};
+ghost use Rattle.std.specs.List.{AllByRecursion};
 ghost use Rattle.pool.specs.Records.{Literal};
 
 use crate::parts::split_entry;
@@ -60,7 +60,7 @@ pub(crate) fn is_entered(game: &Game, pool: &[i32], m: usize, flags: &[bool; 512
 
 // Whether the numbers are the record that the level m, taken as one of the side, learns with a set that contains the set of some entry at the next level.
 pub(crate) fn is_learned(game: &Game, pool: &[i32], m: usize, side: Side, numbers: &[i32]) -> bool
-    requires { (Readable game.now pool.now) × ((m < game.now.depth) × (All (Literal (signals_of game.now)) numbers.now)) }
+    requires { (Readable game.now pool.now) × ((m < game.now.depth) × (AllByRecursion (Literal (signals_of game.now)) numbers.now)) }
     ensures { Decides result (T (all (is_learned_number game.now.variables game.now.clauses side) numbers.now) × Any (λ e. T (all (λ i. elem i (learned_set_of game.now.variables game.now.clauses numbers.now)) e.set)) (entries_at (shown_from game.now pool.now (m + 1)))) }
 {
     if m + 1 == game.depth {

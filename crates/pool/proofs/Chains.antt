@@ -1,6 +1,6 @@
 -- One record of a sound chain after another: the fuel does not matter where it reaches the index. Assumes nothing.
 use Rattle.std.proofs.Common.{◌≡◌, ℕ, zero, suc, ◌<◌, ◌≤◌, ◌↔◌, List, [], ◌∷◌, length, ℤ, sym, refl, ap, le_trans, arith}
-use Rattle.std.specs.List.{AllByRecursion as All}
+use Rattle.std.specs.List.{AllByRecursion}
 use Rattle.pool.specs.Layout.{next_at, numbers_at, Lies}
 use Rattle.pool.specs.Records.{walk, records, Literal, Whole, Linked, Sound}
 
@@ -74,7 +74,7 @@ pub sound_within : (s : ℕ) (pool : List ℤ) (used used' head : ℕ) → used 
 sound_within s pool used used' head h k sound = (k, linked_within s pool used used' h head head sound.1)
 
 -- the numbers of a sound chain name signals
-pub records_literals : (s : ℕ) (pool : List ℤ) (used f p : ℕ) → Linked f s pool used p → All (All (Literal s)) (walk f pool p)
+pub records_literals : (s : ℕ) (pool : List ℤ) (used f p : ℕ) → Linked f s pool used p → AllByRecursion (AllByRecursion (Literal s)) (walk f pool p)
 records_literals s pool used zero p l = tt
 records_literals s pool used (suc f) zero l = tt
 records_literals s pool used (suc f) (suc q) l = (l.0.literals, records_literals s pool used f (next_at pool (suc q)) l.1)

@@ -1,6 +1,6 @@
 -- A chain sees only the words in use: what is written behind them changes neither its soundness nor its records. Assumes nothing.
 use Rattle.std.proofs.Common.{◌≡◌, ℕ, zero, suc, ◌+◌, ◌<◌, ◌≤◌, List, ◌∷◌, length, get_or, take, drop, ℤ, pos, nat_abs, ◌≤ℤ◌, sym, refl, ap, ◌∙◌, subst, arith}
-use Rattle.std.specs.List.{AllByRecursion as All}
+use Rattle.std.specs.List.{AllByRecursion}
 use Rattle.std.proofs.lemmas.List.{get_or-take, take-take, drop-take}
 use Rattle.pool.specs.Layout.{word_at, next_at, count_at, numbers_at, Lies}
 use Rattle.pool.specs.Records.{walk, records, Literal, Whole, Linked, Sound}
@@ -39,7 +39,7 @@ module _ (s used : ℕ) (pool after : List ℤ) (same : take used after ≡ take
       record {
         lies = lies_kept p w.lies;
         falls = subst (λ z. nat_abs z < p) (sym (next_word p w.lies)) w.falls;
-        literals = subst (All (Literal s)) (sym (numbers_kept p w.lies)) w.literals;
+        literals = subst (AllByRecursion (Literal s)) (sym (numbers_kept p w.lies)) w.literals;
       }
 
   linked_kept : (f p : ℕ) → Linked f s pool used p → Linked f s after used p

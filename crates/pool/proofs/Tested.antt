@@ -1,7 +1,7 @@
 -- The tests of soundness say what soundness does. Assumes nothing.
 use Rattle.std.proofs.Common.{◌≡◌, ℕ, zero, suc, ◌+◌, Bool, true, false, ◌&&◌, T, ltb, leb, List, [], ◌∷◌, ℤ, pos, nat_abs, refl}
 use lib.Signed.{le_z, le_z_yes}
-use Rattle.std.specs.List.{AllByRecursion as All}
+use Rattle.std.specs.List.{AllByRecursion}
 use Rattle.std.proofs.lemmas.Bool.{false≢true, and_parts, and_from, leb-true, le-leb, ltb-true, lt-ltb, eqb-true, eq-eqb}
 use Rattle.pool.specs.Layout.{word_at, next_at, count_at, numbers_at}
 use Rattle.pool.specs.Records.{Literal, Whole, Linked}
@@ -15,14 +15,14 @@ sign_from_test : (b : Bool) → b ≡ true → T b
 sign_from_test true e = tt
 sign_from_test false e = false≢true e
 
-literals_from_test : (s : ℕ) (xs : List ℤ) → are_literals s xs ≡ true → All (Literal s) xs
+literals_from_test : (s : ℕ) (xs : List ℤ) → are_literals s xs ≡ true → AllByRecursion (Literal s) xs
 literals_from_test s [] e = tt
 literals_from_test s (x ∷ xs) e =
     let both = and_parts (ltb 0 (nat_abs x) && leb (nat_abs x) s) (are_literals s xs) e in
     let here = and_parts (ltb 0 (nat_abs x)) (leb (nat_abs x) s) both.0 in
     ((ltb-true 0 (nat_abs x) here.0, leb-true (nat_abs x) s here.1), literals_from_test s xs both.1)
 
-test_from_literals : (s : ℕ) (xs : List ℤ) → All (Literal s) xs → are_literals s xs ≡ true
+test_from_literals : (s : ℕ) (xs : List ℤ) → AllByRecursion (Literal s) xs → are_literals s xs ≡ true
 test_from_literals s [] h = refl
 test_from_literals s (x ∷ xs) h =
     and_from _ _ (and_from _ _ (lt-ltb 0 (nat_abs x) h.0.0) (le-leb (nat_abs x) s h.0.1)) (test_from_literals s xs h.1)

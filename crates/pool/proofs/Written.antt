@@ -3,7 +3,7 @@ use Rattle.std.proofs.Common.{◌≡◌, ℕ, ◌+◌, ◌-◌, ◌<◌, ◌≤�
 use lib.Signed.{le_z, le_z_yes}
 use lib.Seq.{drop-append-add}
 use borrow.Rule.Slice.PartMut.{put_mid}
-use Rattle.std.specs.List.{AllByRecursion as All}
+use Rattle.std.specs.List.{AllByRecursion}
 use Rattle.std.proofs.lemmas.List.{length-set, length-append, length-take-le, length-drop, take-append-drop, take-append-le, take_more_set, take-take, take_at, drop-set-lt, get_or-append-add}
 use Rattle.std.proofs.lemmas.Int.{to_z_pos}
 use Rattle.std.proofs.lemmas.Bool.{false≢true, le-leb}
@@ -109,7 +109,7 @@ module _ (s : ℕ) (pool : List ℤ) (used head : ℕ) (xs : List ℤ) (room : R
   other_records other sound = records_kept s used pool (written pool used head xs) (front_written used (omega arith)) other sound
 
   -- the new chain is sound, and has the record in front of the old ones
-  pub new_sound : Sound s pool used head → All (Literal s) xs → Sound s (written pool used head xs) (place_after used + size_for (length xs)) (place_after used)
+  pub new_sound : Sound s pool used head → AllByRecursion (Literal s) xs → Sound s (written pool used head xs) (place_after used + size_for (length xs)) (place_after used)
   new_sound sound named =
       let after = written pool used head xs in
       let old = other_sound head sound in
@@ -126,13 +126,13 @@ module _ (s : ℕ) (pool : List ℤ) (used head : ℕ) (xs : List ℤ) (room : R
               count_sign = subst (λ z. pos 0 ≤ℤ z) (sym count_word) (le_z_yes (sign (length xs)));
             };
             falls = subst (λ z. nat_abs z < place_after used) (sym next_word) room.below;
-            literals = subst (All (Literal s)) (sym numbers_written) named;
+            literals = subst (AllByRecursion (Literal s)) (sym numbers_written) named;
           },
           rest,
         ),
       )
 
-  pub new_records : Sound s pool used head → All (Literal s) xs → records (written pool used head xs) (place_after used) ≡ xs ∷ records pool head
+  pub new_records : Sound s pool used head → AllByRecursion (Literal s) xs → records (written pool used head xs) (place_after used) ≡ xs ∷ records pool head
   new_records sound named =
       let after = written pool used head xs in
       records_step s after (place_after used + size_for (length xs)) (place_after used) (omega arith) (new_sound sound named).1
@@ -142,7 +142,7 @@ module _ (s : ℕ) (pool : List ℤ) (used head : ℕ) (xs : List ℤ) (room : R
 
   -- so for what a call has written, and the numbers that it gives back
   module _ (after : List ℤ) (p u : ℕ) (is : after ≡ written pool used head xs) (here : p ≡ place_after used) (ends : u ≡ place_after used + size_for (length xs)) where
-    pub grows_from : Sound s pool used head → All (Literal s) xs → Sound s after u p × (records after p ≡ xs ∷ records pool head)
+    pub grows_from : Sound s pool used head → AllByRecursion (Literal s) xs → Sound s after u p × (records after p ≡ xs ∷ records pool head)
     grows_from sound named = rw (is, here, ends) (new_sound sound named, new_records sound named)
 
     pub keeps_from : (other : ℕ) → Sound s pool used other → Sound s after u other × (records after other ≡ records pool other)

@@ -1,7 +1,7 @@
 -- What appending a record to a chain does to the pool. Assumes nothing.
 use Rattle.std.specs.Prelude.{◌≡◌, ℕ, ◌+◌, ◌^◌, ◌<◌, ◌≤◌, List, ◌∷◌, ◌++◌, length, take, drop, ℤ, Some, None, Option}
 use Rattle.pool.specs.declared.extend.Place.{Place}
-use Rattle.std.specs.List.{AllByRecursion as All}
+use Rattle.std.specs.List.{AllByRecursion}
 use Rattle.pool.specs.Layout.{record_words, size_for, place_after}
 use Rattle.pool.specs.Records.{records, Literal, Sound}
 
@@ -26,7 +26,7 @@ Appended pool used head numbers after None = (Room (length pool) used head (leng
 -- the new chain is sound, and its records are the new one in front of the old ones
 abbrev pub Grows : List ℤ → ℕ → ℕ → List ℤ → List ℤ → Option Place → Type 0
 Grows pool used head numbers after (Some place) =
-    (s : ℕ) → Sound s pool used head → All (Literal s) numbers
+    (s : ℕ) → Sound s pool used head → AllByRecursion (Literal s) numbers
     → Sound s after place.used place.head × (records after place.head ≡ numbers ∷ records pool head)
 Grows pool used head numbers after None = Unit {0}
 

@@ -1,6 +1,6 @@
 -- The records of a chain, and when a chain is sound. Assumes nothing.
 use Rattle.std.specs.Prelude.{◌≡◌, ℕ, zero, suc, ◌<◌, ◌≤◌, List, [], ◌∷◌, length, ℤ, unsigned_abs}
-use Rattle.std.specs.List.{AllByRecursion as All}
+use Rattle.std.specs.List.{AllByRecursion}
 use Rattle.pool.specs.Layout.{next_at, numbers_at, Lies}
 
 -- the numbers of each record from p on, of at most `fuel` records
@@ -21,7 +21,7 @@ Literal s x = (0 < unsigned_abs x) × (unsigned_abs x ≤ s)
 pub record Whole (s : ℕ) (pool : List ℤ) (used p : ℕ) : Type 0 where
   pub lies : Lies pool p used
   pub falls : next_at pool p < p
-  pub literals : All (Literal s) (numbers_at pool p)
+  pub literals : AllByRecursion (Literal s) (numbers_at pool p)
 
 abbrev pub Linked : ℕ → ℕ → List ℤ → ℕ → ℕ → Type 0
 Linked zero s pool used p = p ≡ 0

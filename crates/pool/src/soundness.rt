@@ -1,6 +1,6 @@
 // Whether a chain is sound, and how one of its records is read.
 ghost use Rattle.std.specs.Prelude.{◌≡◌, ℕ, ◌+◌, ◌<◌, ◌≤◌, length, Decides};
-ghost use Rattle.std.specs.List.{AllByRecursion as All};
+ghost use Rattle.std.specs.List.{AllByRecursion};
 ghost use Rattle.pool.specs.Layout.{next_at, numbers_at, Lies};
 ghost use Rattle.pool.specs.Records.{Literal, Whole, Sound};
 
@@ -23,7 +23,7 @@ pub(crate) fn next(pool: &[i32], p: usize) -> usize
 
 // Whether each number names a signal of 1 to s, or its opposite.
 pub fn are_literals(s: usize, numbers: &[i32]) -> bool
-    ensures { Decides result (All (Literal s) numbers.now) }
+    ensures { Decides result (AllByRecursion (Literal s) numbers.now) }
 {
     for x in numbers {
         if *x == 0 || x.unsigned_abs() as usize > s {

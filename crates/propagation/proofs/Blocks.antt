@@ -1,6 +1,6 @@
 -- A clash rests on the marked signals alone, when a signal is opened again. Assumes nothing.
 use Rattle.std.proofs.Common.{◌≡◌, ℕ, suc, ◌+◌, ◌-◌, ◌<◌, Bool, true, false, ◌||◌, ◌⊎◌, List, [], ◌∷◌, length, get_or, set, ℤ, pos, nat_abs, sym, refl, ap, ◌∙◌, subst, inl, inr, ⊎_elim, arith}
-use Rattle.std.specs.List.{AllByRecursion as All}
+use Rattle.std.specs.List.{AllByRecursion}
 use Rattle.std.proofs.ByRecursion.{All-get_or}
 use Rattle.std.proofs.lemmas.List.{length-set, get_or-set_same, get_or-set_other}
 use Rattle.std.proofs.lemmas.Bool.{cases_eq, both_ways, false≢true}
@@ -59,7 +59,7 @@ blocked_unmarked cs marks row i clear blocked a meets agrees =
 pub blocked_forced : (cs : List (List ℤ)) (marks marks' : List Bool) (row : List ℤ) (i : ℕ) (x : ℤ) (xs : List ℤ) → at row i ≡ x
     → ((k : ℕ) → get_or marks k false ≡ true → get_or marks' k false ≡ true)
     → ((k : ℕ) → k < length xs → get_or marks' (nat_abs (get_or xs k (pos 0)) - 1) false ≡ true)
-    → Shaped row → All (Literal (length (set row i (pos 0)))) xs → Forced (set row i (pos 0)) xs x → ((a : ℕ → Bool) → chain a cs ≡ true → clause a xs ≡ true)
+    → Shaped row → AllByRecursion (Literal (length (set row i (pos 0)))) xs → Forced (set row i (pos 0)) xs x → ((a : ℕ → Bool) → chain a cs ≡ true → clause a xs ≡ true)
     → Blocked cs marks row → Blocked cs marks' (set row i (pos 0))
 blocked_forced cs marks marks' row i x xs is grows marked shaped literals forced member blocked a meets agrees =
     let row' = set row i (pos 0) in

@@ -1,6 +1,6 @@
 -- How a row of values grows by what follows from the records, and by a branch. Assumes nothing.
 use Rattle.std.proofs.Common.{◌≡◌, ℕ, ◌+◌, ◌-◌, ◌<◌, ◌≤◌, Bool, true, false, List, length, get_or, take, set, ℤ, pos, nat_abs, sym, refl, ap, ◌∙◌, subst, inl, inr, ⊎_elim, arith}
-use Rattle.std.specs.List.{AllByRecursion as All}
+use Rattle.std.specs.List.{AllByRecursion}
 use Rattle.std.proofs.ByRecursion.{All-get_or}
 use Rattle.std.proofs.lemmas.List.{length-set, get_or-set_other}
 use Rattle.std.proofs.lemmas.Bool.{both_ways}
@@ -33,7 +33,7 @@ grown_start s cs row trail mark marks ready =
 
 -- a number that a record forces
 pub grown_forced : (cs : List (List ℤ)) (row₀ : List ℤ) (trail₀ : List ℕ) (mark : ℕ) (row : List ℤ) (trail : List ℕ) (top : ℕ) (x : ℤ) (xs : List ℤ)
-    → Grown cs row₀ trail₀ mark row trail top → Forced row xs x → All (Literal (length row)) xs → ((a : ℕ → Bool) → chain a cs ≡ true → clause a xs ≡ true) → ((j : ℕ) → All (Silent row₀ j) cs → Silent row₀ j xs) → top < length trail
+    → Grown cs row₀ trail₀ mark row trail top → Forced row xs x → AllByRecursion (Literal (length row)) xs → ((a : ℕ → Bool) → chain a cs ≡ true → clause a xs ≡ true) → ((j : ℕ) → AllByRecursion (Silent row₀ j) cs → Silent row₀ j xs) → top < length trail
     → Grown cs row₀ trail₀ mark (set row (nat_abs x - 1) x) (set trail top (nat_abs x - 1)) (top + 1)
 grown_forced cs row₀ trail₀ mark row trail top x xs grown forced literals member among room =
     let low = forced.named.0 in
@@ -63,7 +63,7 @@ grown_forced cs row₀ trail₀ mark row trail top x xs grown forced literals me
     }
 
 -- a record of false numbers, all of them marked
-pub blocked_fails : (cs : List (List ℤ)) (marks : List Bool) (row xs : List ℤ) → Shaped row → All (Literal (length row)) xs
+pub blocked_fails : (cs : List (List ℤ)) (marks : List Bool) (row xs : List ℤ) → Shaped row → AllByRecursion (Literal (length row)) xs
     → ((k : ℕ) → k < length xs → get_or marks (nat_abs (get_or xs k (pos 0)) - 1) false ≡ true) → ((k : ℕ) → k < length xs → False row (get_or xs k (pos 0)))
     → ((a : ℕ → Bool) → chain a cs ≡ true → clause a xs ≡ true) → Blocked cs marks row
 blocked_fails cs marks row xs shaped literals marked fails member a meets agrees =

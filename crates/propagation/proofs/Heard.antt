@@ -1,6 +1,6 @@
 -- Which records name a signal, as a row grows. Assumes nothing.
 use Rattle.std.proofs.Common.{◌≡◌, ℕ, ◌-◌, ◌<◌, List, [], ◌∷◌, length, get_or, ℤ, pos, nat_abs, sym, ap, ◌∙◌, inl, inr, ⊎_elim, arith}
-use Rattle.std.specs.List.{AllByRecursion as All}
+use Rattle.std.specs.List.{AllByRecursion}
 use Rattle.propagation.specs.Rows.{at, word_of}
 use Rattle.propagation.specs.Steps.{Holding, Silent, Forced}
 
@@ -15,7 +15,7 @@ module _ (row₀ row : List ℤ) (long : length row ≡ length row₀) (stays : 
       let size = ap nat_abs holds.1.2 in
       (k, (holds.1.0, (low, omega arith), stays (nat_abs x - 1) (omega arith) (λ none. omega arith) ∙ holds.1.2))
 
-  pub silent_stays : (j : ℕ) (cs : List (List ℤ)) → All (Silent row₀ j) cs → All (Silent row j) cs
+  pub silent_stays : (j : ℕ) (cs : List (List ℤ)) → AllByRecursion (Silent row₀ j) cs → AllByRecursion (Silent row j) cs
   silent_stays j [] all = tt
   silent_stays j (c ∷ cs) all = (⊎_elim (λ holds. inl (holding_stays c holds)) (λ unnamed. inr unnamed) all.0, silent_stays j cs all.1)
 

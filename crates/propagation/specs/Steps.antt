@@ -1,6 +1,6 @@
 -- What a record, a row of values and propagation come to. Assumes nothing.
 use Rattle.std.specs.Prelude.{◌≡◌, ℕ, ◌+◌, ◌-◌, ◌<◌, ◌≤◌, Bool, true, ◌⊎◌, List, length, take, ℤ, pos, Some, None, Option, ◌≢◌, slice_index, slice_index_or, unsigned_abs}
-use Rattle.std.specs.List.{AllByRecursion as All}
+use Rattle.std.specs.List.{AllByRecursion}
 use Rattle.pool.specs.Records.{Literal}
 use Rattle.engine.specs.Truth.{chain}
 use Rattle.propagation.specs.declared.status.Status.{Status}
@@ -64,7 +64,7 @@ pub record Grown (cs : List (List ℤ)) (row₀ : List ℤ) (trail₀ : List ℕ
   pub extends : (a : ℕ → Bool) → Agrees row a → Agrees row₀ a
   pub long : length row ≡ length row₀
   pub stays : (i : ℕ) → i < length row₀ → (unsigned_abs (at row₀ i) ≢ 0) → at row i ≡ at row₀ i
-  pub steady : (j : ℕ) → j < length row₀ → unsigned_abs (at row₀ j) ≡ 0 → All (Silent row₀ j) cs → unsigned_abs (at row j) ≡ 0
+  pub steady : (j : ℕ) → j < length row₀ → unsigned_abs (at row₀ j) ≡ 0 → AllByRecursion (Silent row₀ j) cs → unsigned_abs (at row j) ≡ 0
 
 -- a row that clashes with the records, by its marked part and as it was before the trail from `mark` to `top`
 pub record Traced (signals : ℕ) (cs : List (List ℤ)) (row : List ℤ) (trail : List ℕ) (mark top : ℕ) (marks : List Bool) : Type 0 where
@@ -85,5 +85,5 @@ pub record Stuck (cs : List (List ℤ)) (row₀ : List ℤ) (trail₀ : List ℕ
 
 -- what propagation comes to
 abbrev pub Propagated : List (List ℤ) → List ℤ → List ℕ → ℕ → List ℤ → List ℕ → List Bool → Option ℕ → Type 0
-Propagated cs row₀ trail₀ mark row trail marks (Some top) = Grown cs row₀ trail₀ mark row trail top × All (Alive row) cs
+Propagated cs row₀ trail₀ mark row trail marks (Some top) = Grown cs row₀ trail₀ mark row trail top × AllByRecursion (Alive row) cs
 Propagated cs row₀ trail₀ mark row trail marks None = Stuck cs row₀ trail₀ mark row trail marks

@@ -2,7 +2,7 @@
 // The trail is walked back from its end. Each signal there is opened again, and where it is
 // marked, the other signals of a record that forced it are marked in its place.
 ghost use Rattle.std.specs.Prelude.{◌≡◌, ℕ, ◌-◌, ◌<◌, Bool, true, false, length, pos, IfSome, slice_index_or, unsigned_abs};
-ghost use Rattle.std.specs.List.{AllByRecursion as All};
+ghost use Rattle.std.specs.List.{AllByRecursion};
 ghost use Rattle.pool.specs.Records.{Literal};
 ghost use Rattle.pool.specs.Chains.{records_of, signals_of};
 ghost use Rattle.engine.specs.Truth.{clause, chain as allTrue};
@@ -14,7 +14,7 @@ use pool::Chain;
 
 // Marks the signals of a record.
 pub fn mark_signals(marks: &mut [bool], numbers: &[i32])
-    requires { All (Literal (length marks.old)) numbers.now }
+    requires { AllByRecursion (Literal (length marks.old)) numbers.now }
     ensures grows { (k : ℕ) → slice_index_or marks.old k false ≡ true → slice_index_or marks.new k false ≡ true }
     ensures marked { (k : ℕ) → k < length numbers.now → slice_index_or marks.new (unsigned_abs (slice_index_or numbers.now k (pos 0)) - 1) false ≡ true }
 {
@@ -25,7 +25,7 @@ pub fn mark_signals(marks: &mut [bool], numbers: &[i32])
 
 // Whether a record hangs on x alone.
 fn forces(values: &[i32], numbers: &[i32], x: i32) -> bool
-    requires { All (Literal (length values.now)) numbers.now }
+    requires { AllByRecursion (Literal (length values.now)) numbers.now }
     ensures { result ≡ true → Forced values.now numbers.now x }
 {
     match weigh(values, numbers) {
@@ -37,7 +37,7 @@ fn forces(values: &[i32], numbers: &[i32], x: i32) -> bool
 // A record that hangs on x alone.
 fn reason<'a>(chain: Chain<'a>, values: &[i32], x: i32) -> Option<&'a [i32]>
     requires { signals_of chain ≡ length values.now }
-    ensures { IfSome result (λ xs. All (Literal (length values.now)) xs.now × Forced values.now xs.now x × ((a : ℕ → Bool) → allTrue a (records_of chain.entry) ≡ true → clause a xs.now ≡ true)) }
+    ensures { IfSome result (λ xs. AllByRecursion (Literal (length values.now)) xs.now × Forced values.now xs.now x × ((a : ℕ → Bool) → allTrue a (records_of chain.entry) ≡ true → clause a xs.now ≡ true)) }
 {
     let mut rest = chain;
     while let Some(numbers) = rest.next() {

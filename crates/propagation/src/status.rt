@@ -1,6 +1,6 @@
 // What a record comes to under the values of some of the signals.
 ghost use Rattle.std.specs.Prelude.{◌≡◌, ℕ, ◌-◌, ◌<◌, length, unsigned_abs};
-ghost use Rattle.std.specs.List.{AllByRecursion as All};
+ghost use Rattle.std.specs.List.{AllByRecursion};
 ghost use Rattle.pool.specs.Records.{Literal};
 ghost use Rattle.propagation.specs.Rows.{word_of, Shaped};
 ghost use Rattle.propagation.specs.Steps.{Weighed};
@@ -32,7 +32,7 @@ pub fn value_of(values: &[i32], x: i32) -> i32
 
 // Whether a record holds, fails, or hangs on one number.
 pub fn weigh(values: &[i32], numbers: &[i32]) -> Status
-    requires { All (Literal (length values.now)) numbers.now }
+    requires { AllByRecursion (Literal (length values.now)) numbers.now }
     ensures { Weighed values.now numbers.now result }
 {
     let mut open = 0;

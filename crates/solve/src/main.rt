@@ -7,7 +7,6 @@ mod report;
 mod show;
 mod wording;
 
-use anyhow::anyhow;
 use branching::Branching;
 use deciding::{Outcome, decide};
 use game::{Table, open};
@@ -16,6 +15,7 @@ use report::{print_check, print_winner, refuse_opening, refuse_step};
 use show::print_formula;
 use std::io;
 use std::io::Read;
+use std::process::ExitCode;
 use trimmer::Trimmer;
 use wording::SPENT;
 
@@ -58,10 +58,10 @@ fn run(rt: &HostRuntime) -> anyhow::Result<bool> {
 }
 
 // The process ends with status 1 where the text is refused, or the game is not decided.
-fn main(rt: HostRuntime) -> anyhow::Result<()> {
-    match run(&rt) {
-        Ok(true) => Ok(()),
-        Ok(false) => Err(anyhow!("refused")),
-        Err(error) => Err(error),
+fn main(rt: HostRuntime) -> anyhow::Result<ExitCode> {
+    if run(&rt)? {
+        Ok(ExitCode::SUCCESS)
+    } else {
+        Ok(ExitCode::FAILURE)
     }
 }

@@ -1,5 +1,5 @@
 use Rattle.std.proofs.Common.{◌≡◌, ℕ, ◌+◌, ◌-◌, ◌*◌, ◌≤◌, Bool, false, length, get_or, take, sym, ap, ◌∙◌, subst, arith}
-use Rattle.std.specs.List.{AllByRecursion as All}
+use Rattle.std.specs.List.{AllByRecursion}
 use Rattle.std.proofs.lemmas.List.{length-take-le}
 use Rattle.pool.specs.Records.{records, Literal, Sound}
 use Rattle.strategy.specs.Records.{assumptions}
@@ -28,7 +28,7 @@ says_no-requires g c =
         omega (arith, c.count_signals.ensures.few),
         record {
           sound = subst (λ x. Sound x c.args.pool.now game.used (level_of game c.args.m).chain) s (c.requires.0.sound.levels c.args.m c.requires.1.0).chain;
-          literals = subst (λ x. All (Literal x) (take (c.assumptions_of-count.result - 0) buffer)) s (subst (All (Literal (n + 2 * k))) (sym cut) (assumed_literals n k c.args.side (assumed c.args.side before) 0 k (omega arith)));
+          literals = subst (λ x. AllByRecursion (Literal x) (take (c.assumptions_of-count.result - 0) buffer)) s (subst (AllByRecursion (Literal (n + 2 * k))) (sym cut) (assumed_literals n k c.args.side (assumed c.args.side before) 0 k (omega arith)));
           few = omega (arith, size, c.assumptions_of-count.ensures.few);
         },
       ),

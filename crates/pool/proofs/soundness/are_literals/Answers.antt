@@ -1,5 +1,5 @@
 use Rattle.std.proofs.Common.{◌≡◌, get_or, pos, nat_abs, refl, subst, arith, take_all, w32, SFits, rules}
-use Rattle.std.specs.List.{AllByRecursion as All}
+use Rattle.std.specs.List.{AllByRecursion}
 use Rattle.std.proofs.ByRecursion.{All-more, All-get_or}
 use Rattle.std.proofs.lemmas.Int.{to_z-of_z, ints}
 use Rattle.pool.specs.Records.{Literal}
@@ -18,7 +18,7 @@ pub returns-then-x-eq0 : goal.returns-then-x-eq0
 returns-then-x-eq0 c =
     let x = get_or c.args.numbers.now c.loop-x.x-index (pos 0) in
     let fits : SFits w32 x = search rules in
-    let at : All (Literal c.args.s) c.args.numbers.now → Literal c.args.s x
+    let at : AllByRecursion (Literal c.args.s) c.args.numbers.now → Literal c.args.s x
     = All-get_or (Literal c.args.s) c.args.numbers.now c.loop-x.x-index (pos 0) c.loop-x-test.true in (
       (λ e. search rules),
       (λ all. let h = at all in
@@ -31,4 +31,4 @@ returns-then-x-eq0 c =
     )
 
 pub returns : goal.returns
-returns c = (λ e. subst (All (Literal c.args.s)) (take_all _ _ c.loop-x-test.false) c.loop-x.invariant, λ e. refl)
+returns c = (λ e. subst (AllByRecursion (Literal c.args.s)) (take_all _ _ c.loop-x-test.false) c.loop-x.invariant, λ e. refl)

@@ -1,5 +1,5 @@
 use Rattle.std.proofs.Common.{◌≡◌, ℕ, ◌+◌, ◌-◌, ◌<◌, ◌≤◌, Bool, true, List, length, set, ℤ, nat_abs, sym, ap, ◌∙◌, subst, inl, inr, arith, w32, SFits, rules}
-use Rattle.std.specs.List.{AllByRecursion as All}
+use Rattle.std.specs.List.{AllByRecursion}
 use Rattle.std.proofs.ByRecursion.{All-weaker}
 use Rattle.std.proofs.lemmas.List.{length-set}
 use Rattle.std.proofs.lemmas.Int.{to_z-of_z}
@@ -31,7 +31,7 @@ explain-requires c =
     let signalled = c.requires.signalled in
     let room = c.requires.room in
     let space = c.requires.space in
-    let literals : All (Literal (length row)) xs = subst (λ n. All (Literal n) xs) same c.in-Some.ensures.literals in
+    let literals : AllByRecursion (Literal (length row)) xs = subst (λ n. AllByRecursion (Literal n) xs) same c.in-Some.ensures.literals in
     let member : (a : ℕ → Bool) → chain a cs ≡ true → clause a xs ≡ true =
     λ a meets. (chain_parts a (records_of c.records.rest) xs (records_of c.next.new.self) c.in-Some.ensures.records (c.records.invariant.3 a meets)).0 in
     let blocked = blocked_fails cs c.mark_signals.new.marks row xs grown.noted.shaped literals c.mark_signals.ensures.marked c.in-Fails.ensures member in
@@ -88,8 +88,8 @@ records-preserved-in-Forces c =
     let same = c.records.invariant.2 in
     let same' = c.in-Some.ensures.same.0 in
     let long : length c.assign.new.values ≡ length row = ap length row' ∙ length-set row (nat_abs x - 1) x in
-    let literals : All (Literal (length row)) xs = subst (λ n. All (Literal n) xs) same c.in-Some.ensures.literals in
-    let silent = λ (r : List ℤ) (j : ℕ) (all : All (Silent r j) cs). subst (All (Silent r j)) c.in-Some.ensures.records (c.records.invariant.5 r j all) in
+    let literals : AllByRecursion (Literal (length row)) xs = subst (λ n. AllByRecursion (Literal n) xs) same c.in-Some.ensures.literals in
+    let silent = λ (r : List ℤ) (j : ℕ) (all : AllByRecursion (Silent r j) cs). subst (AllByRecursion (Silent r j)) c.in-Some.ensures.records (c.records.invariant.5 r j all) in
     let parts = λ (a : ℕ → Bool). chain_parts a (records_of c.records.rest) xs (records_of c.next.new.self) c.in-Some.ensures.records in (
       (λ row₀ trail₀ g.
           rw (row', trail')
@@ -106,12 +106,12 @@ records-preserved-in-Holds c =
     let row = c.records.values in
     let xs = c.in-Some.numbers.now in
     let is = c.in-Some.ensures.records in
-    let silent = λ (r : List ℤ) (j : ℕ) (all : All (Silent r j) (records_of c.args.chain)). subst (All (Silent r j)) is (c.records.invariant.5 r j all) in (
+    let silent = λ (r : List ℤ) (j : ℕ) (all : AllByRecursion (Silent r j) (records_of c.args.chain)). subst (AllByRecursion (Silent r j)) is (c.records.invariant.5 r j all) in (
       c.records.invariant.0,
       c.records.invariant.1,
       c.in-Some.ensures.same.0 ∙ c.records.invariant.2,
       (λ a meets. (chain_parts a (records_of c.records.rest) xs (records_of c.next.new.self) is (c.records.invariant.3 a meets)).1),
-      (λ e all. c.records.invariant.4 e (subst (All (Alive row)) (sym is) (inl c.in-Holds.ensures, all))),
+      (λ e all. c.records.invariant.4 e (subst (AllByRecursion (Alive row)) (sym is) (inl c.in-Holds.ensures, all))),
       (λ r j all. (silent r j all).1),
     )
 
@@ -120,19 +120,19 @@ records-preserved c =
     let row = c.records.values in
     let xs = c.in-Some.numbers.now in
     let is = c.in-Some.ensures.records in
-    let silent = λ (r : List ℤ) (j : ℕ) (all : All (Silent r j) (records_of c.args.chain)). subst (All (Silent r j)) is (c.records.invariant.5 r j all) in (
+    let silent = λ (r : List ℤ) (j : ℕ) (all : AllByRecursion (Silent r j) (records_of c.args.chain)). subst (AllByRecursion (Silent r j)) is (c.records.invariant.5 r j all) in (
       c.records.invariant.0,
       c.records.invariant.1,
       c.in-Some.ensures.same.0 ∙ c.records.invariant.2,
       (λ a meets. (chain_parts a (records_of c.records.rest) xs (records_of c.next.new.self) is (c.records.invariant.3 a meets)).1),
-      (λ e all. c.records.invariant.4 e (subst (All (Alive row)) (sym is) (inr c.in-Open.ensures, all))),
+      (λ e all. c.records.invariant.4 e (subst (AllByRecursion (Alive row)) (sym is) (inr c.in-Open.ensures, all))),
       (λ r j all. (silent r j all).1),
     )
 
 pub returns-then-top-before : goal.returns-then-top-before
 returns-then-top-before c = (
   c.records.invariant.0 _ _ c.rounds.invariant,
-  c.records.invariant.4 c.if-top-before.true (subst (All (Alive c.records.values)) (sym c.in_default.ensures.records) tt),
+  c.records.invariant.4 c.if-top-before.true (subst (AllByRecursion (Alive c.records.values)) (sym c.in_default.ensures.records) tt),
 )
 
 pub rounds-smaller : goal.rounds-smaller

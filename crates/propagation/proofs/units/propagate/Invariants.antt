@@ -1,5 +1,5 @@
 use Rattle.std.proofs.Common.{◌≡◌, ℕ, ◌-◌, ◌≤◌, Bool, true, List, length, ℤ}
-use Rattle.std.specs.List.{AllByRecursion as All}
+use Rattle.std.specs.List.{AllByRecursion}
 use Rattle.pool.specs.Chains.{records_of, signals_of}
 use Rattle.engine.specs.Truth.{chain}
 use Rattle.propagation.specs.Steps.{Grown, Alive, Silent}
@@ -18,8 +18,8 @@ invariant-records l =
     × (l.before ≤ l.top)
     × (signals_of l.rest ≡ length l.values)
     × ((a : ℕ → Bool) → chain a (records_of l.chain) ≡ true → chain a (records_of l.rest) ≡ true)
-    × (l.top ≡ l.before → All (Alive l.values) (records_of l.rest) → All (Alive l.values) (records_of l.chain))
-    × ((row : List ℤ) (j : ℕ) → All (Silent row j) (records_of l.chain) → All (Silent row j) (records_of l.rest))
+    × (l.top ≡ l.before → AllByRecursion (Alive l.values) (records_of l.rest) → AllByRecursion (Alive l.values) (records_of l.chain))
+    × ((row : List ℤ) (j : ℕ) → AllByRecursion (Silent row j) (records_of l.chain) → AllByRecursion (Silent row j) (records_of l.rest))
 
 abbrev pub decreases-records : goal.decreases-records
 decreases-records l = length (records_of l.rest)
