@@ -4,7 +4,7 @@ use lib.Signed.{lt_z}
 use Rattle.std.specs.List.{AllByRecursion}
 use Rattle.std.proofs.lemmas.Bool.{cond_both}
 use Rattle.formula.specs.Lists.{keep, from, below}
-use Rattle.formula.specs.Lists.{AllByRecursion as Each}
+use Rattle.formula.specs.Lists.{All as Each}
 use Rattle.formula.specs.declared.side.Side.{Side}
 use Rattle.formula.specs.declared.side.Side.TheVariants.{Ours, Device}
 use Rattle.formula.proofs.Maps.{length-each}

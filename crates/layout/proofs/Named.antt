@@ -3,7 +3,7 @@ use Rattle.std.proofs.Common.{◌≡◌, ℕ, zero, suc, ◌+◌, ◌*◌, ◌<�
 use Rattle.std.specs.List.{AllByRecursion}
 use Rattle.std.proofs.lemmas.Bool.{cond_both}
 use Rattle.formula.specs.Lists.{keep, each, elem, from}
-use Rattle.formula.specs.Lists.{AllByRecursion as Each}
+use Rattle.formula.specs.Lists.{All as Each}
 use Rattle.formula.specs.Game.{Clauses, Qbf}
 use Rattle.formula.specs.Proper.{Ascending, Bound, Proper}
 use Rattle.formula.specs.declared.side.Side.{Side}

@@ -4,7 +4,7 @@ use Rattle.std.specs.List.{AllByRecursion}
 use Rattle.std.proofs.lemmas.List.{append-nil, take_more_set, length-set, length-replicate, get_or-replicate, get_or_past}
 use Rattle.std.proofs.lemmas.Bool.{cond-true, cond-false, cases_lt, eq-eqb, ne_eqb}
 use Rattle.formula.specs.Lists.{keep, each, elem, from}
-use Rattle.formula.specs.Lists.{AllByRecursion as Each}
+use Rattle.formula.specs.Lists.{All as Each}
 use Rattle.formula.specs.Game.{other, Clauses, Qbf}
 use Rattle.formula.specs.Backward.{turned}
 use Rattle.formula.specs.Proper.{Ascending, Proper}

@@ -1,7 +1,7 @@
 -- An entry and a learned record, as table and pool show them then; and that the pool stays sound.
 use Rattle.std.proofs.Common.{◌≡◌, ℕ, zero, suc, ◌+◌, ◌<◌, ◌≤◌, Bool, true, false, cond, List, [], ◌∷◌, ◌++◌, length, take, set, ℤ, pos, neg_ℤ, sym, refl, ap, ◌∙◌, subst, ap₂, arith}
-use Rattle.std.specs.List.{AllByRecursionOf}
-use Rattle.formula.specs.Lists.{keep, AllByRecursion, each, from}
+use Rattle.std.specs.List.{AllByRecursion as AllOf}
+use Rattle.formula.specs.Lists.{keep, All, each, from}
 use Rattle.formula.specs.Game.{Clauses}
 use Rattle.formula.specs.Proper.{Ascending}
 use Rattle.formula.specs.declared.side.Side.{Side}
@@ -27,7 +27,7 @@ use Rattle.rules.specs.Noting.{entries_to, chain_to}
 use Rattle.rules.proofs.Growing.{grown_pool, grown_game, NewLevel, chain_sound, chain_same, views_grown, pool_grown, each_at}
 
 -- the numbers of an entry and of a learned record name signals
-all-each : (P : ℤ → Type 0) (f : ℕ → ℤ) (k : ℕ) (A : List ℕ) → AllByRecursion (λ i. i < k) A → ((i : ℕ) → i < k → P (f i)) → AllOf P (each f A)
+all-each : (P : ℤ → Type 0) (f : ℕ → ℤ) (k : ℕ) (A : List ℕ) → All (λ i. i < k) A → ((i : ℕ) → i < k → P (f i)) → AllOf P (each f A)
 all-each P f k [] h p = tt
 all-each P f k (i ∷ A) h p = (p i h.0, all-each P f k A h.1 p)
 
@@ -44,7 +44,7 @@ values_named : (α : ℕ → Bool) (n S : ℕ) (vs : List ℕ) → n ≤ S → P
 values_named α n S [] few p = tt
 values_named α n S (v ∷ vs) few p = let high = p.1 in (value_named S (α v) v p.0 (omega arith), values_named α n S vs few p.3)
 
-module _ (g : Game) (A : List ℕ) (small : AllByRecursion (λ i. i < g.clauses) A) where
+module _ (g : Game) (A : List ℕ) (small : All (λ i. i < g.clauses) A) where
   pub entry_named : (σ : Side) (α : ℕ → Bool) (p : ℕ → Bool) → AllOf (Literal (signals_of g)) (entry_record g.variables σ (record { set = A; values = values_of α (keep p (from 1 g.variables)) }))
   entry_named Ours α p =
       all_append (Literal (signals_of g)) (each (λ i. pos (suc (g.variables + i))) A) _ (all-each (Literal (signals_of g)) (λ i. pos (suc (g.variables + i))) g.clauses A small (λ i h. (omega arith, omega arith)))
@@ -85,7 +85,7 @@ module _ (g : Game) (pool : List ℤ) (sound : SoundPool g pool) (long : g.depth
         record {
           chain = chain_sound g pool sound long j here (level_of g j).entries numbers room (level_of g j).chain old.chain;
           entries = new_sound (signals_of g) pool g.used (level_of g j).entries numbers room old.entries.chain named;
-          forms = subst (AllByRecursion (EntryForm g.variables g.clauses (level_of g j).side (variables_at g j))) (sym entry_records) (form, old.entries.forms);
+          forms = subst (All (EntryForm g.variables g.clauses (level_of g j).side (variables_at g j))) (sym entry_records) (form, old.entries.forms);
         }
 
     pub entry_sound : SoundPool (grown_game g j level numbers) after
@@ -127,7 +127,7 @@ module _ (g : Game) (pool : List ℤ) (sound : SoundPool g pool) (long : g.depth
         record {
           chain = new_sound (signals_of g) pool g.used (level_of g j).chain learned_numbers room old.chain named;
           entries = chain_sound g pool sound long j here (level_of g j).chain learned_numbers room (level_of g j).entries old.entries.chain;
-          forms = subst (AllByRecursion (EntryForm g.variables g.clauses (level_of g j).side (variables_at g j)))
+          forms = subst (All (EntryForm g.variables g.clauses (level_of g j).side (variables_at g j)))
               (sym (chain_same g pool sound long j here (level_of g j).chain learned_numbers room (level_of g j).entries old.entries.chain)) old.entries.forms;
         }
 

@@ -2,7 +2,7 @@
 #![tactic(auto)]
 
 mod deciding;
-mod plan;
+mod plan_text;
 mod report;
 mod show;
 mod wording;

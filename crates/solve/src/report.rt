@@ -1,5 +1,5 @@
 // What the program says of a game: refusals on standard error, the winner, the plan and its check on standard output.
-use crate::plan::print_plan;
+use crate::plan_text::print_plan;
 use crate::wording::{check_fault, game_fault, step_fault, steps_word, what_it_means, winner_name};
 use engine::Engine;
 use formula::Side;
