@@ -1,25 +1,27 @@
 #!/usr/bin/env bash
 # Misuses of a verdict that the compiler must refuse, each with the error that is named below.
 # .ci/misuse.txt is a right use, which must be taken; each misuse is one line of it, marked //[NAME].
-# The compiler is called on the sources of the crate game and of what it is built on, and nothing is proved.
+# The program is compiled and run in a folder of its own, over copies of the crate game and of what it is built on; nothing is proved.
 set -eu
 cd "$(dirname "$0")/.."
-kit=$(dirname "$(dirname "$(rt doc)")")
 work=$(mktemp -d)
 trap 'rm -rf "$work"' EXIT
 
-libraries=()
-while IFS=: read -r name used; do
-    libraries+=(--lib "$name:$(echo $used | tr ' ' ,)=$kit/$name/src/lib.rt")
-done < "$kit/libs.txt"
-for name in $(sed -n 's/^game: *//p' crates.txt) game; do
-    libraries+=(--lib "$name=$PWD/crates/$name/src/lib.rt")
+below=$(sed -n 's/^game: *//p' crates.txt)
+mkdir -p "$work/crates/misuse/src"
+for name in $below game; do
+    mkdir -p "$work/crates/$name"
+    cp -r "crates/$name/src" "$work/crates/$name/"
+    if [ -d "crates/$name/specs" ]; then cp -r "crates/$name/specs" "$work/crates/$name/"; fi
+    grep "^$name:" crates.txt >> "$work/crates.txt"
 done
+echo "misuse: game $below" >> "$work/crates.txt"
+git init -q "$work"
 
-# compiles the program with the line of that name put in
+# compiles and runs the program with the line of that name put in
 attempt() {
-    sed "s,//\[$1\] ,," .ci/misuse.txt > "$work/main.rt"
-    "$kit/bin/rattle-print-mir" "$work/main.rt" --crate-name misuse "${libraries[@]}" > "$work/mir" 2> "$work/log"
+    sed "s,//\[$1\] ,," .ci/misuse.txt > "$work/crates/misuse/src/main.rt"
+    (cd "$work/crates/misuse" && rt try) > "$work/log" 2>&1
 }
 
 fail() {

@@ -18,3 +18,7 @@ pub use refusals::StepFault;
 pub use stepping::{Progress, step};
 pub use table::Table;
 pub use verdict::Verdict;
+
+// What the parts below offer users of a game: its record to be read, and theorems on opened games and on moves.
+pub use layout::{Game, Level, words_of_small_games};
+pub use plan::{a_move_is_recorded, entries_have_values, plays_are_taken};
