@@ -35,7 +35,7 @@ CHOSEN = {
     "same-side": "same_side_lem",
     "shown-records": "shown_records_lem",
     "values-in": "values_in_lem",
-    "yes-last": "yes_last_lem",
+    "yes-last": "yes_at_last",
 }
 
 # a lemma that falls together with a definition that its file cites

@@ -4,7 +4,7 @@ use Rattle.formula.specs.Game.{Clauses}
 use Rattle.formula.proofs.Turned.{ours_not_device}
 use Rattle.strategy.specs.Entries.{LevelState, variables_of}
 use Rattle.formula.specs.Proper.{LastOurs}
-use Rattle.strategy.specs.Steps.{KeptLevel, State, playing, decided, all_levels, YesMeans, NoMeans, StepBy, no_level_ours, no_level_device, yes_below_last, yes_only_level, yes_last_lem, no_first, no_second, no_later, StepsBy, here, more, opened}
+use Rattle.strategy.specs.Steps.{KeptLevel, State, playing, decided, all_levels, YesMeans, NoMeans, StepBy, no_level_ours, no_level_device, yes_below_last, yes_only_level, yes_at_last, no_first, no_second, no_later, StepsBy, here, more, opened}
 use Rattle.strategy.specs.Next.{Answer, satisfied, refused, next, AnswerBy}
 use Rattle.strategy.proofs.Verdicts.{first_side, SoundState}
 use Rattle.formula.specs.declared.side.Side.{Side}
@@ -30,7 +30,7 @@ answer_step (c ∷ C) Yes No (playing σ [] []) x h k = no_level_device (omega a
 answer_step C Yes No (playing σ (p ∷ back) []) x h k = absurd (cons-nil p back k)
 answer_step C Yes No (playing σ back (s ∷ n ∷ r)) (satisfied x) h k = yes_below_last x k
 answer_step C Yes No (playing Ours [] (s ∷ [])) (satisfied x) h k = yes_only_level x k
-answer_step C Yes No (playing Ours (p ∷ back) (s ∷ [])) (satisfied x) h k = yes_last_lem x k
+answer_step C Yes No (playing Ours (p ∷ back) (s ∷ [])) (satisfied x) h k = yes_at_last x k
 answer_step C Yes No (playing Device back (s ∷ [])) (satisfied x) h k = absurd (ours_not_device (sym h))
 answer_step C Yes No (playing σ [] (s ∷ r)) (refused A) h k = no_first A k
 answer_step C Yes No (playing σ (p ∷ []) (s ∷ r)) (refused A) h k = no_second A k
@@ -60,7 +60,7 @@ step_present C Yes No (no_level_ours e) = tt
 step_present C Yes No (no_level_device e) = tt
 step_present C Yes No (yes_below_last x a) = tt
 step_present C Yes No (yes_only_level x a) = tt
-step_present C Yes No (yes_last_lem x a) = tt
+step_present C Yes No (yes_at_last x a) = tt
 step_present C Yes No (no_first A a) = tt
 step_present C Yes No (no_second A a) = tt
 step_present C Yes No (no_later A a) = tt

@@ -9,7 +9,7 @@ use Rattle.formula.proofs.Values.{choices-length}
 use Rattle.strategy.specs.Counts.{NoSuperset, FewEntries}
 use Rattle.strategy.specs.Entries.{Entry, LevelState, choices_at, fits, entries_of}
 use Rattle.strategy.specs.Potential.{excludes, excluded}
-use Rattle.strategy.specs.Steps.{KeptLevel, played, State, playing, decided, learn, enter, last_entry_set, entry_set, no_level_ours, no_level_device, yes_below_last, yes_only_level, yes_last_lem, no_first, no_second, no_later, here, more, new_level, opened, all_levels, states_of}
+use Rattle.strategy.specs.Steps.{KeptLevel, played, State, playing, decided, learn, enter, last_entry_set, entry_set, no_level_ours, no_level_device, yes_below_last, yes_only_level, yes_at_last, no_first, no_second, no_later, here, more, new_level, opened, all_levels, states_of}
 use Rattle.strategy.proofs.ByMeaning.{YesMeaning, NoMeaning, MeaningStep, MeaningSteps}
 use Rattle.strategy.proofs.Counting.{count_lt, count_length, none_of}
 use Rattle.strategy.proofs.Falls.{yes_unexcluded, no_excludes, last_excludes}
@@ -182,7 +182,7 @@ step_distinct C τ levels (yes_below_last {σ} {back} {s} {n} {r} x a) h t = go 
     go Device a h t = (yes_unexcluded C Device (played back) s n r x a (kept_front C Device back (s ∷ n ∷ r) h).0.small, t)
 step_distinct C τ levels (yes_only_level {s} x a) h t =
     ((([], inl refl, last_excludes C [] x, none_left (fits C Ours []) s.entries t.0), t.1.0), t.1.1, tt)
-step_distinct C τ levels (yes_last_lem {p} {back} {s} x a) h t =
+step_distinct C τ levels (yes_at_last {p} {back} {s} x a) h t =
     back_distinct C Device back p.state s p.kept x [] (last_entry_set C (hit C (played (p ∷ back))) x) (kept_play C Ours (p ∷ back) (s ∷ []) h.2) (last_excludes C (played (p ∷ back)) x) t.0 t.1
 step_distinct C τ levels (no_first A a) h t = t.1
 step_distinct C τ levels (no_second {σ} {p} {s} {r} A a) h t =

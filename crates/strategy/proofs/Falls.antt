@@ -6,7 +6,7 @@ use Rattle.formula.specs.Lists.{all, In, All, elem, below}
 use Rattle.formula.proofs.Tests.{dec, clash, or_cases, nor_l, nor_r, and_l, both, all_at, all_from, kept_in, kept_passes}
 use Rattle.strategy.specs.Entries.{LevelState, choices_at, variables_of}
 use Rattle.strategy.specs.Potential.{same_values, weight, excludes, excluded, unexcluded, unexcluded_but, present_term, kept_terms, potential}
-use Rattle.strategy.specs.Steps.{KeptLevel, played, State, playing, learn, enter, last_entry_set, entry_set, no_level_ours, no_level_device, yes_below_last, yes_only_level, yes_last_lem, no_first, no_second, no_later}
+use Rattle.strategy.specs.Steps.{KeptLevel, played, State, playing, learn, enter, last_entry_set, entry_set, no_level_ours, no_level_device, yes_below_last, yes_only_level, yes_at_last, no_first, no_second, no_later}
 use Rattle.strategy.proofs.ByMeaning.{YesMeaning, NoMeaning, MeaningStep}
 use Rattle.strategy.proofs.Counting.{count_le, count_lt, count_length, none_of, all_map₂, same_values_refl, same_values_eq}
 use Rattle.strategy.proofs.Growth.{SoundKept, kept_front}
@@ -114,7 +114,7 @@ step_falls C τ levels (yes_below_last {σ} {back} {s} {n} {r} x a) h = go σ a 
         (kept_falls C Device (played back) s x a.among (yes_unexcluded C Device (played back) s n r x a (kept_front C Device back (s ∷ n ∷ r) h).0.small))
         (present_weight C Ours (x ∷ played back) (n ∷ r))
 step_falls C τ levels (yes_only_level x a) h = omega arith
-step_falls C τ levels (yes_last_lem {p} {back} {s} x a) h =
+step_falls C τ levels (yes_at_last {p} {back} {s} x a) h =
     let A : List ℕ = last_entry_set C (hit C (played (p ∷ back))) x in
     rw (kept_terms_same C Device back (learn A p.state ∷ enter A x s ∷ []) (p.state ∷ s ∷ []) refl)
     (return_falls (kept_terms C Device back (p.state ∷ s ∷ [])) (unexcluded C Device (played back) (learn A p.state)) (unexcluded_but C Device (played back) p.state p.kept) 1 1

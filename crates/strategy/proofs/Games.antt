@@ -6,7 +6,7 @@ use Rattle.strategy.specs.Entries.{LevelState, variables_of}
 use Rattle.formula.specs.Model.{bound_in}
 use Rattle.strategy.specs.WellFormed.{ProperLevel, WellFormed}
 use Rattle.strategy.specs.Questions.{YesAt, NoAt}
-use Rattle.strategy.specs.Steps.{KeptLevel, played, State, playing, decided, all_levels, no_level_ours, no_level_device, yes_below_last, yes_only_level, yes_last_lem, no_first, no_second, no_later, here, more, opened, Step, Reached}
+use Rattle.strategy.specs.Steps.{KeptLevel, played, State, playing, decided, all_levels, no_level_ours, no_level_device, yes_below_last, yes_only_level, yes_at_last, no_first, no_second, no_later, here, more, opened, Step, Reached}
 use Rattle.strategy.specs.Next.{Answer, satisfied, refused, next, Answers}
 use Rattle.strategy.specs.Potential.{present_term, potential}
 use Rattle.strategy.proofs.Ascents.{well_proper}
@@ -38,7 +38,7 @@ step_meaning q p (no_level_ours e) = no_level_ours e
 step_meaning q p (no_level_device e) = no_level_device e
 step_meaning q p (yes_below_last {σ} {back} {s} {n} {r} x a) = yes_below_last x (yes_meaning q.clauses q.variables σ (played back) s (n ∷ r) p.0 x a)
 step_meaning q p (yes_only_level {s} x a) = yes_only_level x (yes_meaning q.clauses q.variables _ [] s [] p.0 x a)
-step_meaning q p (yes_last_lem {p = k} {back} {s} x a) = yes_last_lem x (yes_meaning q.clauses q.variables _ (played (k ∷ back)) s [] p.0 x a)
+step_meaning q p (yes_at_last {p = k} {back} {s} x a) = yes_at_last x (yes_meaning q.clauses q.variables _ (played (k ∷ back)) s [] p.0 x a)
 step_meaning q p (no_first {σ} {s} {r} A a) = no_first A (no_meaning q.clauses q.variables σ [] s r p.0 A a)
 step_meaning q p (no_second {σ} {p = k} {s} {r} A a) = no_second A (no_meaning q.clauses q.variables σ (played (k ∷ [])) s r p.0 A a)
 step_meaning q p (no_later {σ} {p = k} {q = l} {back} {s} {r} A a) = no_later A (no_meaning q.clauses q.variables σ (played (k ∷ l ∷ back)) s r p.0 A a)

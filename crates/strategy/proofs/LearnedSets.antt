@@ -5,7 +5,7 @@ use Rattle.formula.specs.Lists.{each}
 use Rattle.formula.proofs.Members.{length-each}
 use Rattle.strategy.specs.Counts.{FewEntries, sets_of, LearnedAreEntries, FewLearned}
 use Rattle.strategy.specs.Entries.{Entry, LevelState, entries_of}
-use Rattle.strategy.specs.Steps.{KeptLevel, played, State, learn, enter, last_entry_set, entry_set, no_level_ours, no_level_device, yes_below_last, yes_only_level, yes_last_lem, no_first, no_second, no_later, here, more, new_level, opened, all_levels, states_of}
+use Rattle.strategy.specs.Steps.{KeptLevel, played, State, learn, enter, last_entry_set, entry_set, no_level_ours, no_level_device, yes_below_last, yes_only_level, yes_at_last, no_first, no_second, no_later, here, more, new_level, opened, all_levels, states_of}
 use Rattle.strategy.proofs.ByMeaning.{MeaningStep, MeaningSteps}
 use Rattle.strategy.proofs.EntryCount.{entries_few}
 use Rattle.formula.specs.declared.side.Side.{Side}
@@ -29,7 +29,7 @@ step_learned C (no_level_ours e) h = h
 step_learned C (no_level_device e) h = h
 step_learned C (yes_below_last x a) h = h
 step_learned C (yes_only_level x a) h = (h.0, h.1)
-step_learned C (yes_last_lem {p} {back} {s} x a) h = learned_back back p.state s [] (last_entry_set C (hit C (played (p ∷ back))) x) x h
+step_learned C (yes_at_last {p} {back} {s} x a) h = learned_back back p.state s [] (last_entry_set C (hit C (played (p ∷ back))) x) x h
 step_learned C (no_first A a) h = h
 step_learned C (no_second A a) h = (h.0, h.1)
 step_learned C (no_later {σ} {p} {q} {back} {s} {r} A a) h = learned_back back q.state p.state (s ∷ r) (entry_set C σ A p.kept) p.kept h

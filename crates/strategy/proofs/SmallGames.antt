@@ -4,7 +4,7 @@ use Rattle.formula.specs.Examples.{E, F}
 use Rattle.formula.proofs.Tests.{or_r}
 use Rattle.strategy.specs.Entries.{LevelState}
 use Rattle.strategy.specs.Questions.{YesAt, NoAt}
-use Rattle.strategy.specs.Steps.{yes_below_last, yes_last_lem, no_second, here, more, new_level, Reached}
+use Rattle.strategy.specs.Steps.{yes_below_last, yes_at_last, no_second, here, more, new_level, Reached}
 use Rattle.strategy.specs.Examples.{end_of_e, end_of_f, ExampleGames}
 use Rattle.formula.specs.declared.side.Side.TheVariants.{Ours, Device}
 
@@ -36,7 +36,7 @@ no₄ : NoAt E.clauses 3 Device ((negsuc 0 ∷ []) ∷ []) learned_three (entere
 no₄ = record { named = λ i m. or_r (eqb i 1) (eqb i 2 || false) m; unsatisfiable = λ α s h. not_nine (α 9) _ s h }
 
 game_of_e : Reached E 4 end_of_e
-game_of_e = more (more (more (more here (yes_below_last (negsuc 0 ∷ []) yes₁)) (yes_below_last (negsuc 1 ∷ []) yes₂)) (yes_last_lem (negsuc 2 ∷ []) yes₃)) (no_second (2 ∷ []) no₄)
+game_of_e = more (more (more (more here (yes_below_last (negsuc 0 ∷ []) yes₁)) (yes_below_last (negsuc 1 ∷ []) yes₂)) (yes_at_last (negsuc 2 ∷ []) yes₃)) (no_second (2 ∷ []) no₄)
 
 -- F: a yes with all false, then a no that names both assumptions
 yes₅ : YesAt F.clauses 2 Device [] (new_level (1 ∷ [])) (new_level (2 ∷ []) ∷ []) (negsuc 0 ∷ [])

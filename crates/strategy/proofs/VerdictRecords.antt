@@ -7,7 +7,7 @@ use Rattle.formula.proofs.Members.{all_map}
 use Rattle.strategy.specs.Check.{LevelRecords, entries_at, RecordCheck, RecordChecks, EntryCheck, LevelChecks, StartCheck, Check, EntriesOfLevel, records_of}
 use Rattle.strategy.specs.Entries.{Entry, LevelState, choices_at, variables_of}
 use Rattle.strategy.specs.Records.{open_records, learned_record, chain}
-use Rattle.strategy.specs.Steps.{KeptLevel, played, State, all_levels, states_of, learn, enter, last_entry_set, entry_set, no_level_ours, no_level_device, yes_below_last, yes_only_level, yes_last_lem, no_first, no_second, no_later, here, more, new_level, opened}
+use Rattle.strategy.specs.Steps.{KeptLevel, played, State, all_levels, states_of, learn, enter, last_entry_set, entry_set, no_level_ours, no_level_device, yes_below_last, yes_only_level, yes_at_last, no_first, no_second, no_later, here, more, new_level, opened}
 use Rattle.strategy.specs.WellFormed.{ProperLevel}
 use Rattle.strategy.proofs.AnswerMeaning.{nothing_meets_unsatisfiable}
 use Rattle.strategy.proofs.ByMeaning.{MeaningStep, MeaningSteps, MeaningLearned, MeaningEntry, MeaningRules, MeaningStart, MeaningCheck}
@@ -109,7 +109,7 @@ step_entries C τ levels (no_level_ours e) h v = v
 step_entries C τ levels (no_level_device e) h v = v
 step_entries C τ levels (yes_below_last x a) h v = v
 step_entries C τ levels (yes_only_level x a) h v = ((a.among, v.0), v.1)
-step_entries C τ levels (yes_last_lem {p} {back} {s} x a) h v =
+step_entries C τ levels (yes_at_last {p} {back} {s} x a) h v =
     all_levels_grow EntriesIn back (p.state ∷ s ∷ [])
     (learn (last_entry_set C (hit C (played (p ∷ back))) x) p.state ∷ enter (last_entry_set C (hit C (played (p ∷ back))) x) x s ∷ [])
     (λ k. (k.0, ((a.among, k.1.0), tt))) v

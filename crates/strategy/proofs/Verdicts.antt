@@ -4,7 +4,7 @@ use Rattle.formula.specs.Game.{other, Values, Clauses, Play, hits, hit}
 use Rattle.formula.specs.Lists.{all, In, each, elem, below}
 use Rattle.formula.proofs.Tests.{dec, clash, or_l, or_r, or_cases, nor_l, both, all_from, in_below, below_in, keep_in, kept_in, kept_passes, empty_set}
 use Rattle.strategy.specs.Entries.{LevelState, choices_at, variables_of}
-use Rattle.strategy.specs.Steps.{KeptLevel, played, State, playing, decided, learn, enter, last_entry_set, entry_set, no_level_ours, no_level_device, yes_below_last, yes_only_level, yes_last_lem, no_first, no_second, no_later, here, more, new_level, opened, all_levels}
+use Rattle.strategy.specs.Steps.{KeptLevel, played, State, playing, decided, learn, enter, last_entry_set, entry_set, no_level_ours, no_level_device, yes_below_last, yes_only_level, yes_at_last, no_first, no_second, no_later, here, more, new_level, opened, all_levels}
 use Rattle.strategy.proofs.ByMeaning.{YesMeaning, NoMeaning, MeaningStep, MeaningSteps, MeaningEntry, MeaningStart, MeaningCheck}
 use Rattle.strategy.proofs.Growth.{SoundLevel, SoundLevels, SoundKept, learnt, entered, next, grows_same, nothing_meets_more, learned_grow, entries_all_grow, kept_front, kept_grow, sound_rules}
 use Rattle.formula.specs.declared.side.Side.{Side}
@@ -104,7 +104,7 @@ step_keeps C τ levels (yes_only_level {s} x a) h = (
         (sound_enter C Ours (last_entry_set C (hit C []) x) x s [] a.among (last_entry C [] s x a) h.2.0, tt);
   },
 )
-step_keeps C τ levels (yes_last_lem {p} {back} {s} x a) h =
+step_keeps C τ levels (yes_at_last {p} {back} {s} x a) h =
     let A : List ℕ = last_entry_set C (hit C (played (p ∷ back))) x in (
       h.0,
       same_vars back (learn A p.state ∷ enter A x s ∷ []) (p.state ∷ s ∷ []) refl ∙ h.1,

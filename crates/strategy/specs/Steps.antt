@@ -66,7 +66,7 @@ pub data StepBy (C : Clauses) (Yes : YesMeans) (No : NoMeans) : State → State 
   yes_only_level : {s : LevelState} (x : Values) → Yes Ours [] s [] x
       → StepBy C Yes No (playing Ours [] (s ∷ [])) (decided Ours Ours (enter (last_entry_set C (hit C []) x) x s ∷ []))
   -- yes at the last level: enter; the level before learns the entry's set and is present
-  yes_last_lem : {p : KeptLevel} {back : List KeptLevel} {s : LevelState} (x : Values) → Yes Ours (played (p ∷ back)) s [] x
+  yes_at_last : {p : KeptLevel} {back : List KeptLevel} {s : LevelState} (x : Values) → Yes Ours (played (p ∷ back)) s [] x
       → StepBy C Yes No (playing Ours (p ∷ back) (s ∷ []))
       (playing Device back (learn (last_entry_set C (hit C (played (p ∷ back))) x) p.state ∷ enter (last_entry_set C (hit C (played (p ∷ back))) x) x s ∷ []))
   -- no at level 1: the other side has won
