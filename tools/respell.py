@@ -21,6 +21,7 @@ DECLARED = re.compile(r"^(\s*)((?:(?:abbrev|unfoldable|pub|record|data) )*)(" + 
 FUNCTIONS = set("length take drop append get_or set each keep any all has elem gather turned from below cond choices hits hit nil cons onto push pour records".split())
 # names that would fall together with another
 CHOSEN = {
+    "everyHit": "every_hit",
     "after-device": "after_device_lem",
     "at-end": "at_end_lem",
     "first-side": "first_side_lem",
@@ -38,8 +39,11 @@ CHOSEN = {
     "yes-last": "yes_at_last",
 }
 
-# a lemma that falls together with a definition that its file cites
-HERE = {"crates/reader/proofs/Tokens.antt": {"by_number": "by_number_lem"}}
+# names that fall together with a definition that their file cites
+HERE = {
+    "crates/reader/proofs/Tokens.antt": {"by_number": "by_number_lem"},
+    "crates/strategy/proofs/AnswerSteps.antt": {"everyHit": "EveryHit"},
+}
 
 
 def texts():

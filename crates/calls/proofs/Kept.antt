@@ -11,7 +11,7 @@ use Rattle.reader.specs.Text.{reads}
 use Rattle.reader.specs.declared.faults.TextFault.{TextFault}
 use Rattle.strategy.specs.Steps.{State, playing, decided, opened, here, Reached}
 use Rattle.strategy.specs.View.{Shows, AnswersView}
-use Rattle.strategy.specs.View.{stepped as steppedView}
+use Rattle.strategy.specs.View.{stepped as stepped_view}
 use Rattle.strategy.proofs.ViewGames.{view_follows}
 use Rattle.layout.specs.declared.game.Game.{Game}
 use Rattle.layout.specs.Table.{Limits, Filled, blank, blank_game}
@@ -30,7 +30,7 @@ use Rattle.game.specs.declared.verdict.Verdict.{Verdict}
 use Rattle.game.specs.Opens.{fitting, opening, open_gives, pool_after, game_after, holds_after}
 use Rattle.game.specs.Steps.{Played, StepGives}
 use Rattle.game.specs.Verdicts.{is_verdict_of, retiring}
-use Rattle.game.specs.Verdicts.{holds_after as holdsRetired, game_after as gameRetired}
+use Rattle.game.specs.Verdicts.{holds_after as holds_retired, game_after as game_retired}
 use Rattle.game.proofs.OpeningFits.{never_both, same_ok}
 use Rattle.calls.specs.Acts.{Act, open_text, retire, Told, no_table, no_verdict, moved, checked, answered}
 use Rattle.calls.specs.Acts.{opened as opened-so, stepped as stepped-so, retired as retired-so}
@@ -134,8 +134,8 @@ stepped_stands q m p p' st undecided holds played = by st.state st.reached st.sh
         let answers : AnswersView n (length C) (view_of p.game p.words) played.answer =
         subst (λ k. AnswersView n k (view_of p.game p.words) played.answer) count (subst (λ k. AnswersView k p.game.clauses (view_of p.game p.words) played.answer) st.variables played.answers) in
         let on = view_follows q st.well m σ back front (view_of p.game p.words) played.answer reached shows answers in
-        let shown : view_of p'.game p'.words ≡ steppedView C n (view_of p.game p.words) played.answer =
-        played.shows ∙ ap (λ c. steppedView c p.game.variables (view_of p.game p.words) played.answer) st.clauses ∙ ap (λ k. steppedView C k (view_of p.game p.words) played.answer) st.variables in
+        let shown : view_of p'.game p'.words ≡ stepped_view C n (view_of p.game p.words) played.answer =
+        played.shows ∙ ap (λ c. stepped_view c p.game.variables (view_of p.game p.words) played.answer) st.clauses ∙ ap (λ k. stepped_view C k (view_of p.game p.words) played.answer) st.variables in
         record {
           held = holds;
           well = st.well;
@@ -158,7 +158,7 @@ step_fits most p p' (Ok (Decided v)) h none m fits = absurd (false≢true (sym f
 step_fits most p p' (Ok (Decided v)) h (some q) m fits = stepped_stands q m p p' fits h.0.playing.undecided h.1 h.2
 
 -- retire: the table is empty, or as it was
-retire_fits : (p p' : Place) (b : Bool) (v : Verdict) → b ≡ taken (retiring p.holds p.game v) → p'.holds ≡ holdsRetired p.holds p.game v → p'.game ≡ gameRetired p.holds p.game v
+retire_fits : (p p' : Place) (b : Bool) (v : Verdict) → b ≡ taken (retiring p.holds p.game v) → p'.holds ≡ holds_retired p.holds p.game v → p'.game ≡ game_retired p.holds p.game v
     → p'.words ≡ p.words → (f : Maybe Qbf) (m : ℕ) → Fits f m p → Fits (formula_after retire (retired-so b) f) (steps_after (retired-so b) m) p'
 retire_fits p p' b v is holds game words f m fits = by (is_verdict_of p.holds p.game v) refl
   where

@@ -16,7 +16,7 @@ use Rattle.game.specs.Opens.{opening, open_gives, pool_after, game_after, holds_
 use Rattle.game.specs.Steps.{StepGives}
 use Rattle.game.specs.Moves.{called, Moved}
 use Rattle.game.specs.Verdicts.{retiring}
-use Rattle.game.specs.Verdicts.{holds_after as holdsRetired, game_after as gameRetired}
+use Rattle.game.specs.Verdicts.{holds_after as holds_retired, game_after as game_retired}
 use Rattle.plan_check.specs.declared.faults.CheckFault.{CheckFault}
 use Rattle.plan_check.specs.Checked.{Checked}
 use Rattle.calls.specs.Acts.{Act, open_text, step, move_at, check_for, retire, ask, Told, no_table, no_verdict, opened, stepped, moved, checked, retired, answered}
@@ -76,8 +76,8 @@ pub data Happens (most : ℕ) : Act → Place → Told → Place → Type 0 wher
       → Moved (called p.holds p.game v p.words level play 256) (replicate 256 (pos 0)) values r → Happens most (move_at level play) p (moved r values) p
   moves_without : {level : ℕ} {play : List ℤ} {p : Place} → p.verdict ≡ None → Happens most (move_at level play) p no_verdict p
   checks : {w : Side} {p : Place} {r : Result Bool CheckFault} → Checked most p.holds p.game p.words w r → Happens most (check_for w) p (checked r) p
-  retires : {p p' : Place} {b : Bool} (v : Verdict) → p.verdict ≡ Some v → b ≡ taken (retiring p.holds p.game v) → p'.holds ≡ holdsRetired p.holds p.game v
-      → p'.game ≡ gameRetired p.holds p.game v → p'.words ≡ p.words → p'.verdict ≡ verdict_retired (retiring p.holds p.game v) → Happens most retire p (retired b) p'
+  retires : {p p' : Place} {b : Bool} (v : Verdict) → p.verdict ≡ Some v → b ≡ taken (retiring p.holds p.game v) → p'.holds ≡ holds_retired p.holds p.game v
+      → p'.game ≡ game_retired p.holds p.game v → p'.words ≡ p.words → p'.verdict ≡ verdict_retired (retiring p.holds p.game v) → Happens most retire p (retired b) p'
   retires_without : {p : Place} → p.verdict ≡ None → Happens most retire p no_verdict p
   asks : {signals used head room : ℕ} {assumed : List ℤ} {p : Place} {told : Told}
       → AnsweredSo most (record { signals = signals; words = p.words; in_use = used; first = head; assumed = assumed }) room told → Happens most (ask signals used head room assumed) p told p

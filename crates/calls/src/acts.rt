@@ -2,7 +2,7 @@
 ghost use Rattle.std.specs.Prelude.{◌≡◌, ℕ, length, replicate, pos, IfOk, Some, None};
 ghost use Rattle.engine.specs.Asking.{asked};
 ghost use Rattle.calls.specs.Acts.{open_text, move_at, told_by};
-ghost use Rattle.calls.specs.Acts.{step as stepAct, retire as retireAct};
+ghost use Rattle.calls.specs.Acts.{step as step_act, retire as retire_act};
 ghost use Rattle.calls.specs.Places.{place_with};
 ghost use Rattle.calls.specs.Happening.{Happens, AnsweredSo};
 
@@ -39,7 +39,7 @@ pub(crate) fn step_at<E: Engine>(
     pool: &mut [i32],
     verdict: &mut Option<Verdict>,
 ) -> Outcome
-    ensures { Happens E.Engine.most stepAct (place_with table.old pool.old verdict.old) (told_by result) (place_with table.new pool.new verdict.new) }
+    ensures { Happens E.Engine.most step_act (place_with table.old pool.old verdict.old) (told_by result) (place_with table.new pool.new verdict.new) }
 {
     match step(table, engine, pool) {
         Ok(progress) => match progress {
@@ -56,7 +56,7 @@ pub(crate) fn step_at<E: Engine>(
 
 // The verdict is handed in; one that is refused comes back.
 pub(crate) fn retire_at(table: &mut Table, pool: &[i32], verdict: &mut Option<Verdict>) -> Outcome
-    ensures { (most : ℕ) → Happens most retireAct (place_with table.old pool.now verdict.old) (told_by result) (place_with table.new pool.now verdict.new) }
+    ensures { (most : ℕ) → Happens most retire_act (place_with table.old pool.now verdict.old) (told_by result) (place_with table.new pool.now verdict.new) }
 {
     let Some(given) = verdict.take() else {
         return Outcome::NoVerdict;

@@ -1,7 +1,7 @@
 -- The value of a game, level by level, is the truth, variable by variable.
 use Rattle.std.proofs.Common.{◌≡◌, ℕ, Bool, ◌&&◌, ◌||◌, List, [], ◌∷◌, ◌++◌, length, get_or, ℤ, pos, neg_ℤ, sym, refl, ap, ◌∙◌, ap₂}
 use Rattle.formula.specs.Lists.{all, any, each, below}
-use Rattle.formula.specs.Game.{other, same, has, Values, choices, Clauses, Play, hits, hit, everyHit}
+use Rattle.formula.specs.Game.{other, same, has, Values, choices, Clauses, Play, hits, hit, every_hit}
 use Rattle.formula.specs.declared.side.Side.{Side}
 use Rattle.formula.specs.declared.side.Side.TheVariants.{Ours, Device}
 use Rattle.formula.specs.Truth.{Quantified, prefix, join, truth_from}
@@ -14,7 +14,7 @@ quantify Device f l = all f l
 
 -- the truth with best play from the play π on
 abbrev pub value : Clauses → Side → List (List ℕ) → Play → Bool
-value C σ [] π = everyHit C π
+value C σ [] π = every_hit C π
 value C σ (vs ∷ r) π = quantify σ (λ x. value C (other σ) r (x ∷ π)) (choices vs)
 
 module _ {A : Type 0} where

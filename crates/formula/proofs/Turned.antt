@@ -2,7 +2,7 @@
 use Rattle.std.proofs.Common.{◌≡◌, ℕ, Bool, true, false, cond, ◌||◌, List, [], ◌∷◌, ◌++◌, length, sym, refl, ap, ◌∙◌, subst}
 use mathlib.Core.List.{nil≢cons}
 use Rattle.formula.specs.Lists.{below}
-use Rattle.formula.specs.Game.{Clauses, Play, PlayOf, hits, hit, everyHit, winner}
+use Rattle.formula.specs.Game.{Clauses, Play, PlayOf, hits, hit, every_hit, winner}
 use Rattle.formula.specs.Backward.{onto, turned, For, Won, level_after}
 use Rattle.formula.specs.declared.side.Side.{Side}
 use Rattle.formula.specs.declared.side.Side.TheVariants.{Ours, Device}
@@ -40,7 +40,7 @@ hit-onto C (x ∷ π) ρ i = hit-onto C π (x ∷ ρ) i ∙ or_swap (hit C π i)
 pub hit-turned : (C : Clauses) (π : Play) (i : ℕ) → hit C (turned π) i ≡ hit C π i
 hit-turned C π i = hit-onto C π [] i ∙ or_false (hit C π i)
 
-pub every_hit_turned : (C : Clauses) (π : Play) → everyHit C (turned π) ≡ everyHit C π
+pub every_hit_turned : (C : Clauses) (π : Play) → every_hit C (turned π) ≡ every_hit C π
 every_hit_turned C π = all_same (hit C (turned π)) (hit C π) (below (length C)) (hit-turned C π)
 
 for_winner : (w : Side) (b : Bool) → For w b → cond b Ours Device ≡ w
@@ -63,10 +63,10 @@ winner_for Device true e = absurd (ours_not_device e)
 winner_for Device false e = tt
 
 pub won_winner : (C : Clauses) (w : Side) (π : Play) → Won C w π → winner C (turned π) ≡ w
-won_winner C w π h = for_winner w (everyHit C (turned π)) (subst (For w) (sym (every_hit_turned C π)) h)
+won_winner C w π h = for_winner w (every_hit C (turned π)) (subst (For w) (sym (every_hit_turned C π)) h)
 
 pub winner_won : (C : Clauses) (w : Side) (π : Play) → winner C (turned π) ≡ w → Won C w π
-winner_won C w π e = subst (For w) (every_hit_turned C π) (winner_for w (everyHit C (turned π)) e)
+winner_won C w π e = subst (For w) (every_hit_turned C π) (winner_for w (every_hit C (turned π)) e)
 
 -- the level after a play of the levels before it
 pub level_after_lem : (before : List (List ℕ)) (level : List ℕ) (after : List (List ℕ)) (π : Play) → PlayOf before π

@@ -2,7 +2,7 @@
 -- That they say the same as specs/Plans is proved in proofs/Turned.
 use Rattle.std.specs.Prelude.{ℕ, Bool, true, false, cond, not, ◌&&◌, ◌||◌, T, List, [], ◌∷◌, pos, neg_ℤ}
 use Rattle.formula.specs.Lists.{In, each}
-use Rattle.formula.specs.Game.{same, Clauses, Values, choices, Play, everyHit}
+use Rattle.formula.specs.Game.{same, Clauses, Values, choices, Play, every_hit}
 use Rattle.formula.specs.declared.side.Side.{Side}
 use Rattle.formula.specs.declared.side.Side.TheVariants.{Ours, Device}
 
@@ -21,7 +21,7 @@ For Device b = T (not b)
 
 -- the side w wins the complete play π
 abbrev pub Won : Clauses → Side → Play → Type 0
-Won C w π = For w (everyHit C π)
+Won C w π = For w (every_hit C π)
 
 -- w, who plays by f, wins from the play π on, of which the newest level is first, whatever the other side plays at the levels left
 abbrev pub WinsFrom : Clauses → Side → (Play → Values) → Side → List (List ℕ) → Play → Type 0

@@ -65,8 +65,8 @@ abbrev pub sat : Clauses → Values → List ℕ
 sat C x = each (λ i. suc i) (keep (hits C x) (below (length C)))
 
 -- Ours wins a complete play when every clause is hit, else the device does.
-abbrev pub everyHit : Clauses → Play → Bool
-everyHit C π = all (hit C π) (below (length C))
+abbrev pub every_hit : Clauses → Play → Bool
+every_hit C π = all (hit C π) (below (length C))
 
 abbrev pub winner : Clauses → Play → Side
-winner C π = cond (everyHit C π) Ours Device
+winner C π = cond (every_hit C π) Ours Device

@@ -7,7 +7,7 @@ use Rattle.formula.proofs.Maps.{length-each}
 use Rattle.strategy.specs.Next.{no_level_winner}
 use Rattle.strategy.specs.Next.{Answer as Said, refused}
 use Rattle.strategy.specs.View.{AnswersView}
-use Rattle.strategy.specs.View.{stepped as steppedView}
+use Rattle.strategy.specs.View.{stepped as stepped_view}
 use Rattle.engine.specs.declared.question.Answer.{Answer}
 use Rattle.layout.specs.declared.game.Game.{Game}
 use Rattle.layout.specs.Viewed.{view_level, view_of, clauses_of}
@@ -20,9 +20,9 @@ use Rattle.game.specs.Steps.{Played}
 
 module _ (g : Game) (pool : List ℤ) (spare : Spare g pool) (long : g.depth ≤ length g.levels) (undecided : g.verdict ≡ None) (g' : Game) (pool' : List ℤ) where
   done : (a : Said) → AnswersView g.variables g.clauses (view_of g pool) a → held g' pool' ≡ stepped g pool a
-      → Follows g pool (stepped g pool a) (steppedView (clauses_of g pool) g.variables (view_of g pool) a) → Played g pool g' pool'
+      → Follows g pool (stepped g pool a) (stepped_view (clauses_of g pool) g.variables (view_of g pool) a) → Played g pool g' pool'
   done a answers rule f =
-      let view = steppedView (clauses_of g pool) g.variables (view_of g pool) a in
+      let view = stepped_view (clauses_of g pool) g.variables (view_of g pool) a in
       let f' : Follows g pool (held g' pool') view = subst (λ s. Follows g pool s view) (sym rule) f in
       record {
         answer = a;

@@ -11,7 +11,7 @@ use Rattle.formula.specs.declared.side.Side.TheVariants.{Ours, Device}
 use Rattle.formula.proofs.Turned.{same_head, same_tail}
 use Rattle.engine.proofs.Values.{length_values}
 use Rattle.engine.specs.Truth.{literal, clause, chain}
-use Rattle.engine.specs.Truth.{each as eachTrue}
+use Rattle.engine.specs.Truth.{each as each_true}
 use Rattle.engine.specs.Meaning.{Part, none, leave, Clash, values, value_after}
 use Rattle.engine.specs.Meaning.{keep as take-it}
 use Rattle.rules.proofs.Stepping.{ascending_lower}
@@ -28,7 +28,7 @@ clause_is : (α : ℕ → Bool) (c : List ℤ) → clause α c ≡ any (holds α
 clause_is α [] = refl
 clause_is α (x ∷ c) = ap₂ ◌||◌ (literal_is α x) (clause_is α c)
 
-pub each_is : (α : ℕ → Bool) (xs : List ℤ) → eachTrue α xs ≡ all (holds α) xs
+pub each_is : (α : ℕ → Bool) (xs : List ℤ) → each_true α xs ≡ all (holds α) xs
 each_is α [] = refl
 each_is α (x ∷ xs) = ap₂ ◌&&◌ (literal_is α x) (each_is α xs)
 
@@ -46,7 +46,7 @@ test_true false t = absurd t
 pub meets_chain : (α : ℕ → Bool) (cs : List (List ℤ)) → chain α cs ≡ true → T (satisfies α cs)
 meets_chain α cs e = true_test _ (sym (chain_is α cs) ∙ e)
 
-pub meets_each : (α : ℕ → Bool) (xs : List ℤ) → eachTrue α xs ≡ true → T (all (holds α) xs)
+pub meets_each : (α : ℕ → Bool) (xs : List ℤ) → each_true α xs ≡ true → T (all (holds α) xs)
 meets_each α xs e = true_test _ (sym (each_is α xs) ∙ e)
 
 pub clash_unsatisfiable : (cs : List (List ℤ)) (xs : List ℤ) → Clash cs xs → Unsatisfiable cs xs

@@ -3,7 +3,7 @@ use Rattle.std.specs.Prelude.{◌≡◌, ℕ, Bool, true, List, ℤ, Some, None,
 use Rattle.formula.specs.declared.side.Side.{Side}
 use Rattle.strategy.specs.Next.{Answer}
 use Rattle.strategy.specs.View.{AnswersView}
-use Rattle.strategy.specs.View.{stepped as steppedView}
+use Rattle.strategy.specs.View.{stepped as stepped_view}
 use Rattle.layout.specs.declared.game.Game.{Game}
 use Rattle.layout.specs.Table.{Limits, Filled}
 use Rattle.layout.specs.Viewed.{view_of, clauses_of}
@@ -22,7 +22,7 @@ pub record Played (g : Game) (pool : List ℤ) (g' : Game) (pool' : List ℤ) : 
   pub answer : Answer
   pub answers : AnswersView g.variables g.clauses (view_of g pool) answer
   pub rule : held g' pool' ≡ stepped g pool answer
-  pub shows : view_of g' pool' ≡ steppedView (clauses_of g pool) g.variables (view_of g pool) answer
+  pub shows : view_of g' pool' ≡ stepped_view (clauses_of g pool) g.variables (view_of g pool) answer
   pub clauses : clauses_of g' pool' ≡ clauses_of g pool
   pub variables : g'.variables ≡ g.variables
   pub sound : SoundPool g' pool'

@@ -5,7 +5,7 @@ ghost use Rattle.std.specs.Prelude.{◌≡◌, ℕ, ◌-◌, ◌<◌, Bool, true
 ghost use Rattle.std.specs.List.{AllByRecursion};
 ghost use Rattle.pool.specs.Records.{Literal};
 ghost use Rattle.pool.specs.Chains.{records_of, signals_of};
-ghost use Rattle.engine.specs.Truth.{clause, chain as allTrue};
+ghost use Rattle.engine.specs.Truth.{clause, chain as all_true};
 ghost use Rattle.propagation.specs.Rows.{Blocked, back};
 ghost use Rattle.propagation.specs.Steps.{Forced, Traced};
 
@@ -37,7 +37,7 @@ fn forces(values: &[i32], numbers: &[i32], x: i32) -> bool
 // A record that hangs on x alone.
 fn reason<'a>(chain: Chain<'a>, values: &[i32], x: i32) -> Option<&'a [i32]>
     requires { signals_of chain ≡ length values.now }
-    ensures { IfSome result (λ xs. AllByRecursion (Literal (length values.now)) xs.now × Forced values.now xs.now x × ((a : ℕ → Bool) → allTrue a (records_of chain.entry) ≡ true → clause a xs.now ≡ true)) }
+    ensures { IfSome result (λ xs. AllByRecursion (Literal (length values.now)) xs.now × Forced values.now xs.now x × ((a : ℕ → Bool) → all_true a (records_of chain.entry) ≡ true → clause a xs.now ≡ true)) }
 {
     let mut rest = chain;
     while let Some(numbers) = rest.next() {

@@ -14,7 +14,7 @@ use Rattle.strategy.specs.Steps.{last_entry_set, entry_set}
 use Rattle.strategy.specs.Next.{no_level_winner}
 use Rattle.strategy.specs.Next.{Answer as Said, satisfied, refused}
 use Rattle.strategy.specs.View.{LevelView, GameView, at, keeping, beginning, entering, learning, no_level, still_playing, won_by, yes_below, yes_last, no_at, answered}
-use Rattle.strategy.specs.View.{stepped as steppedView}
+use Rattle.strategy.specs.View.{stepped as stepped_view}
 use Rattle.layout.specs.declared.game.Level.{Level}
 use Rattle.layout.specs.declared.game.Game.{Game}
 use Rattle.layout.specs.Table.{nought, level_of}
@@ -166,20 +166,20 @@ module _ (g : Game) (pool : List ℤ) (spare : Spare g pool) (long : g.depth ≤
       (cases_lt (suc m) g.depth)
 
   -- with a level: what an answer changes; with none, the verdict comes unasked
-  pub answer_follows : (a : Said) → g.present < g.depth → OfLevel g a → Marked g pool a → Follows g pool (stepped g pool a) (steppedView (clauses_of g pool) g.variables (view_of g pool) a)
+  pub answer_follows : (a : Said) → g.present < g.depth → OfLevel g a → Marked g pool a → Follows g pool (stepped g pool a) (stepped_view (clauses_of g pool) g.variables (view_of g pool) a)
   answer_follows a here of marked =
       let C = clauses_of g pool in
       let L = level_views g pool in
       let no : leb g.depth g.present ≡ false = lt-leb g.depth g.present here in
       let no' : leb (length L) g.present ≡ false = ap (λ d. leb d g.present) count ∙ no in
-      subst (λ s. Follows g pool s (steppedView C g.variables (view_of g pool) a)) (sym (cond-false _ _ _ no))
-      (subst (Follows g pool (changed g pool a)) (sym (ap (λ v. steppedView C g.variables v a) as_shown ∙ cond-false _ _ _ no')) (changed_follows a here of marked))
+      subst (λ s. Follows g pool s (stepped_view C g.variables (view_of g pool) a)) (sym (cond-false _ _ _ no))
+      (subst (Follows g pool (changed g pool a)) (sym (ap (λ v. stepped_view C g.variables v a) as_shown ∙ cond-false _ _ _ no')) (changed_follows a here of marked))
 
-  pub unasked_follows : (a : Said) → g.depth ≤ g.present → Follows g pool (stepped g pool a) (steppedView (clauses_of g pool) g.variables (view_of g pool) a)
+  pub unasked_follows : (a : Said) → g.depth ≤ g.present → Follows g pool (stepped g pool a) (stepped_view (clauses_of g pool) g.variables (view_of g pool) a)
   unasked_follows a none =
       let C = clauses_of g pool in
       let L = level_views g pool in
       let all : leb g.depth g.present ≡ true = le-leb g.depth g.present none in
       let all' : leb (length L) g.present ≡ true = ap (λ d. leb d g.present) count ∙ all in
-      subst (λ s. Follows g pool s (steppedView C g.variables (view_of g pool) a)) (sym (cond-true _ _ _ all))
-      (subst (Follows g pool (decided_for (no_level_winner C) (held g pool))) (sym (ap (λ v. steppedView C g.variables v a) as_shown ∙ cond-true _ _ _ all')) (decided_follows (no_level_winner C)))
+      subst (λ s. Follows g pool s (stepped_view C g.variables (view_of g pool) a)) (sym (cond-true _ _ _ all))
+      (subst (Follows g pool (decided_for (no_level_winner C) (held g pool))) (sym (ap (λ v. stepped_view C g.variables v a) as_shown ∙ cond-true _ _ _ all')) (decided_follows (no_level_winner C)))

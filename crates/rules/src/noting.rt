@@ -8,7 +8,7 @@ ghost use Rattle.layout.specs.Laying.{Laid};
 ghost use Rattle.layout.specs.Table.{Limits, level_of};
 ghost use Rattle.layout.specs.Viewed.{values_in};
 ghost use Rattle.rules.specs.Noting.{entries_to, chain_to, with_level, entry_written, record_written};
-ghost use Rattle.rules.specs.Noting.{signed as signedSignal};
+ghost use Rattle.rules.specs.Noting.{signed as signed_signal};
 ghost use Rattle.rules.specs.Changes.{held, entered, learned, noted};
 ghost use Rattle.rules.specs.Spare.{Spare, SetOf, bound_by};
 
@@ -20,7 +20,7 @@ use pool::Place;
 // The signal of a clause that comes behind `base`, or its opposite.
 fn signed(negative: bool, base: usize, clause: usize) -> i32
     requires { (base ≤ 768) × (clause < 512) }
-    ensures { result ≡ signedSignal negative base clause }
+    ensures { result ≡ signed_signal negative base clause }
 {
     let signal = (base + clause + 1) as i32;
     if negative { -signal } else { signal }
@@ -34,7 +34,7 @@ pub(crate) fn put_signals(
     buffer: &mut [i32; 768],
 ) -> usize
     requires { (base ≤ 768) × ((length clauses.now ≤ 512) × (((i : ℕ) → i < length clauses.now → slice_index clauses.now i < 512))) }
-    ensures numbers { take result buffer.new ≡ each (signedSignal negative base) clauses.now }
+    ensures numbers { take result buffer.new ≡ each (signed_signal negative base) clauses.now }
     ensures count { result ≡ length clauses.now }
 {
     for i in 0..clauses.len() {

@@ -11,11 +11,11 @@ use Rattle.formula.specs.declared.side.Side.{Side}
 use Rattle.formula.specs.declared.side.Side.TheVariants.{Ours, Device}
 
 cons-nil : {A : Type 0} (x : A) (l : List A) → x ∷ l ≡ [] → ⊥
-cons-nil {A} x l e = subst everyHit e tt
+cons-nil {A} x l e = subst EveryHit e tt
   where
-    everyHit : List A → Type 0
-    everyHit [] = ⊥
-    everyHit (y ∷ m) = Unit {0}
+    EveryHit : List A → Type 0
+    EveryHit [] = ⊥
+    EveryHit (y ∷ m) = Unit {0}
 
 -- the last of the levels from the present one on is ours
 abbrev pub LastFrontOurs : State → Type 0

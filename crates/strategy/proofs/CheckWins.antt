@@ -2,7 +2,7 @@
 use Rattle.std.proofs.Common.{◌≡◌, ℕ, ◌<◌, Bool, true, false, cond, not, ◌&&◌, ◌||◌, T, List, [], ◌∷◌, length, sym, subst, ⊎_elim}
 use mathlib.Core.Option.{Option, some}
 use lib.Dec.{not_T}
-use Rattle.formula.specs.Game.{Values, Clauses, Play, hits, hit, everyHit}
+use Rattle.formula.specs.Game.{Values, Clauses, Play, hits, hit, every_hit}
 use Rattle.formula.specs.Lists.{all, find, In, All, Any, elem, below}
 use Rattle.formula.proofs.Members.{all_or, any_map, any_gives}
 use Rattle.formula.proofs.Tests.{dec, clash, twice, once, or_l, or_r, or_cases, nor, both, and_l, and_r, all_at, all_from, in_below, below_in}
@@ -44,7 +44,7 @@ ours_next C d r π F st sub bk y m =
     fit A fals e inside =
         all_from (hit C (y ∷ π)) e.set (λ i h. hit_by i (once (F i || hits C y i) (all_at (λ j. not (b j)) A fals i (all_at (λ j. elem j A) e.set inside i h))))
 
-ours_end : (C : Clauses) (π : Play) (e : Entry) → MeaningEntry C Ours [] e → T (fits C Ours π e) → T (everyHit C (e.values ∷ π))
+ours_end : (C : Clauses) (π : Play) (e : Entry) → MeaningEntry C Ours [] e → T (fits C Ours π e) → T (every_hit C (e.values ∷ π))
 ours_end C π e holds_of ft =
     all_from (hit C (e.values ∷ π)) (below (length C))
     (λ i h. ⊎_elim (λ m. or_r (hits C e.values i) (hit C π i) (all_at (hit C π) e.set ft i m)) (or_l (hits C e.values i) (hit C π i))
@@ -68,10 +68,10 @@ ours_wait C d (o ∷ d' ∷ r) π F st sub rs y m =
 
 -- the device's: at our level whose chain nothing meets when t is false at F, clauses that the play π does not hit
 module _ (C : Clauses) (π : Play) (F : ℕ → Bool) (sub : (i : ℕ) → T (F i) → T (not (hit C π i))) (y : Values) where
-  device_end : (o : LevelState) → NothingMeets C Ours o [] F → In y (choices_at o) → T (not (everyHit C (y ∷ π)))
-  device_end o st m = not_T (everyHit C (y ∷ π)) (λ f. st y m (λ i. not (F i)) (λ i. false) (meets f) (λ i lt h. twice (F i) h))
+  device_end : (o : LevelState) → NothingMeets C Ours o [] F → In y (choices_at o) → T (not (every_hit C (y ∷ π)))
+  device_end o st m = not_T (every_hit C (y ∷ π)) (λ f. st y m (λ i. not (F i)) (λ i. false) (meets f) (λ i lt h. twice (F i) h))
     where
-      meets : T (everyHit C (y ∷ π)) → Meets C Ours o [] y (λ i. not (F i)) (λ i. false)
+      meets : T (every_hit C (y ∷ π)) → Meets C Ours o [] y (λ i. not (F i)) (λ i. false)
       meets f i lt h =
           ⊎_elim (λ g. g) (λ g. absurd (clash (hit C π i) g (sub i (once (F i) h))))
           (or_cases (hits C y i) (hit C π i) (all_at (hit C (y ∷ π)) (below (length C)) f i (in_below (length C) i lt)))
@@ -115,7 +115,7 @@ device_wait C o (n ∷ o' ∷ r) π F st sub rs y m =
 -- the first level
 pub check_wins : (C : Clauses) (w σ : Side) (states : List LevelState) → MeaningCheck C w σ states → RecordedWins C w σ states []
 check_wins C Ours σ [] c = subst (λ n. T (all (hit C []) (below n))) (sym c.starts) tt
-check_wins C Device σ [] c = not_T (everyHit C []) (λ f. all_at (hit C []) (below (length C)) f 0 (in_below (length C) 0 c.starts))
+check_wins C Device σ [] c = not_T (every_hit C []) (λ f. all_at (hit C []) (below (length C)) f 0 (in_below (length C) 0 c.starts))
 check_wins C Ours Device (d ∷ r) c = ours_wait C d r [] (λ i. false) c.starts (λ i h. h) c.rules
 check_wins C Device Ours (o ∷ r) c = device_wait C o r [] (λ i. true) c.starts (λ i h. tt) c.rules
 check_wins C Ours Ours (o ∷ []) c =
