@@ -39,6 +39,18 @@ CHOSEN = {
     "yes-last": "yes_at_last",
 }
 
+# names under which a file imports another's
+ALIASES = {
+    "allTrue": "all_true",
+    "eachTrue": "each_true",
+    "gameRetired": "game_retired",
+    "holdsRetired": "holds_retired",
+    "retireAct": "retire_act",
+    "signalsRead": "signals_read",
+    "signedSignal": "signed_signal",
+    "stepAct": "step_act",
+    "steppedView": "stepped_view",
+}
 # names that fall together with a definition that their file cites
 HERE = {
     "crates/reader/proofs/Tokens.antt": {"by_number": "by_number_lem"},
@@ -104,7 +116,7 @@ def respelled(name, types):
 def main():
     names, types = declared()
     turned = {n: respelled(n, types) for n in sorted(names)}
-    turned = {a: b for a, b in turned.items() if a != b}
+    turned = {a: b for a, b in turned.items() if a != b} | ALIASES
     # what falls together: two old names with one new one, a new name that was there, or that a file with the old one has already
     back = collections.defaultdict(set)
     for a, b in turned.items():
