@@ -1,6 +1,6 @@
 // The engine: it makes the assumptions true and then searches.
 // To 'no' it names the assumptions whose signals the search marked.
-ghost use Rattle.std.specs.Prelude.{◌≡◌, ℕ, ◌≤◌, ◌++◌, length, drop, replicate, pos};
+ghost use Rattle.std.specs.Prelude.{◌≡◌, ◌≤◌, ◌++◌, length, drop, replicate, pos};
 ghost use Rattle.std.specs.List.{AllByRecursion};
 ghost use Rattle.pool.specs.Records.{Literal};
 ghost use Rattle.pool.specs.Chains.{records_of, signals_of};

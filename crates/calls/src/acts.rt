@@ -1,5 +1,5 @@
 // Each call at a table, with the pool and the verdict that belong to it.
-ghost use Rattle.std.specs.Prelude.{◌≡◌, ℕ, length, replicate, pos, IfOk, Some, None};
+ghost use Rattle.std.specs.Prelude.{ℕ, IfOk, Some, None};
 ghost use Rattle.engine.specs.Asking.{asked};
 ghost use Rattle.calls.specs.Acts.{open_text, move_at, told_by};
 ghost use Rattle.calls.specs.Acts.{step as step_act, retire as retire_act};

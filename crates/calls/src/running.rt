@@ -1,5 +1,5 @@
 // Lists of calls. The law of all runs stands on the two functions here.
-ghost use Rattle.std.specs.Prelude.{◌≡◌, List, [], ◌∷◌, map, length, IfOk, vec_len, MatchResult};
+ghost use Rattle.std.specs.Prelude.{◌≡◌, [], ◌∷◌, map, length, IfOk, vec_len, MatchResult};
 ghost use Rattle.calls.specs.Acts.{told_by};
 ghost use Rattle.calls.specs.Places.{place_of};
 ghost use Rattle.calls.specs.Runs.{event_of, events_of};

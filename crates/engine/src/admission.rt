@@ -1,5 +1,5 @@
 // Which questions an engine refuses, and why.
-ghost use Rattle.std.specs.Prelude.{◌≡◌, ℕ, Decides, MatchResult};
+ghost use Rattle.std.specs.Prelude.{Decides, MatchResult};
 ghost use Rattle.engine.specs.Asking.{asked};
 ghost use Rattle.engine.specs.Meaning.{Proper, Taken, Refused};
 

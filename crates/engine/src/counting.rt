@@ -1,6 +1,6 @@
 // An engine that tries one assignment after another, for up to 24 signals.
 // It gives the first one in order, signal 1 leading and false before true, and to 'no' names all assumptions.
-ghost use Rattle.std.specs.Prelude.{◌≡◌, ℕ, ◌<◌, ◌≤◌, ◌++◌, length, drop};
+ghost use Rattle.std.specs.Prelude.{◌≡◌, ◌<◌, ◌≤◌, ◌++◌, length, drop};
 ghost use Rattle.std.specs.List.{AllByRecursion};
 ghost use Rattle.pool.specs.Records.{Literal};
 ghost use Rattle.pool.specs.Chains.{records_of, signals_of};

@@ -1,5 +1,5 @@
 // A layer that counts the questions put to it, so that a caller can see how often it asks.
-ghost use Rattle.std.specs.Prelude.{◌≡◌, ℕ, ◌+◌, ◌-◌, ◌^◌, min};
+ghost use Rattle.std.specs.Prelude.{◌≡◌, ◌+◌, ◌-◌, ◌^◌, min};
 ghost use Rattle.engine.specs.Asking.{asked};
 ghost use Rattle.engine.specs.Meaning.{Answered};
 

@@ -1,5 +1,5 @@
 // A whole formula: read-only, with what every reader of it may rely on in its type.
-ghost use Rattle.std.specs.Prelude.{◌≡◌, ℕ, ◌+◌, ◌-◌, ◌<◌, ◌≤◌, true, false, ◌&&◌, leb, ◌⊎◌, length, take, drop, if◌then◌else◌, Some, None, MatchOption, nat_le, nat_lt};
+ghost use Rattle.std.specs.Prelude.{◌≡◌, ◌+◌, ◌-◌, ◌<◌, ◌≤◌, false, ◌&&◌, ◌⊎◌, length, take, drop, if◌then◌else◌, Some, None, MatchOption, nat_le, nat_lt};
 ghost use Rattle.formula.specs.Lists.{keep, elem};
 ghost use Rattle.formula.specs.Sides.{side_at};
 ghost use Rattle.formula.specs.Found.{first_of};
@@ -58,7 +58,7 @@ impl Formula {
 
     // The side of a level, counted from 1; None where there is no such level.
     pub fn side(&self, level: usize) -> Option<Side>
-        ensures { result ≡ (if leb 1 level && nat_le level (length (qbf self.now.parts).levels) then Some (side_at (qbf self.now.parts).first level) else None) }
+        ensures { result ≡ (if nat_le 1 level && nat_le level (length (qbf self.now.parts).levels) then Some (side_at (qbf self.now.parts).first level) else None) }
     {
         if level >= 1 && level <= self.levels() {
             Some(self.parts.side(level))

@@ -1,5 +1,5 @@
 // What a formula consists of, in fixed arrays, and how it is looked up there.
-ghost use Rattle.std.specs.Prelude.{◌≡◌, ℕ, ◌+◌, ◌-◌, ◌≤◌, length};
+ghost use Rattle.std.specs.Prelude.{◌≡◌, ◌+◌, ◌-◌, ◌≤◌, length};
 ghost use Rattle.formula.specs.Lists.{keep, from};
 ghost use Rattle.formula.specs.Sides.{side_at};
 ghost use Rattle.formula.specs.Found.{first_of, binds_at, variables_of};

@@ -1,5 +1,5 @@
 // The next move of the side that has won, after any play of the levels before: what its recorded plan says.
-ghost use Rattle.std.specs.Prelude.{◌≡◌, ℕ, ◌≤◌, ◌++◌, length, drop, MatchResult};
+ghost use Rattle.std.specs.Prelude.{◌≡◌, ◌≤◌, ◌++◌, length, drop, MatchResult};
 ghost use Rattle.layout.specs.Table.{Limits};
 ghost use Rattle.plan.specs.NextMove.{is_level_of};
 ghost use Rattle.game.specs.Moves.{move_number, called, Refused, Taken, Moved};

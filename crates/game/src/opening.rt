@@ -1,5 +1,5 @@
 // Open: a game of the formula that a text reads as, written into the caller's pool.
-ghost use Rattle.std.specs.Prelude.{◌≡◌, ℕ, length, Ok};
+ghost use Rattle.std.specs.Prelude.{◌≡◌, length, Ok};
 ghost use Rattle.formula.specs.Game.{Qbf};
 ghost use Rattle.reader.specs.Text.{reads};
 ghost use Rattle.layout.specs.Begun.{Begun};

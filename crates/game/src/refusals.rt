@@ -1,5 +1,5 @@
 // Why a step is refused. Nothing is changed before the last of these was looked at.
-ghost use Rattle.std.specs.Prelude.{◌≡◌, ℕ, ◌≤◌, false, length, MatchResult, slice_index_or};
+ghost use Rattle.std.specs.Prelude.{◌≡◌, ◌≤◌, false, length, MatchResult, slice_index_or};
 ghost use Rattle.formula.specs.Lists.{keep, from};
 ghost use Rattle.layout.specs.Table.{Limits};
 ghost use Rattle.rules.specs.Spare.{bound_by};

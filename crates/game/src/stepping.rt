@@ -1,9 +1,9 @@
 // A step of a game: one question to the engine about the present level, and what its answer changes.
-ghost use Rattle.std.specs.Prelude.{◌≡◌, ℕ, ◌<◌, ◌≤◌, length, None};
+ghost use Rattle.std.specs.Prelude.{◌≡◌, ◌<◌, ◌≤◌, length, None};
 ghost use Rattle.formula.specs.Game.{Clauses};
 ghost use Rattle.strategy.specs.Next.{no_level_winner};
 ghost use Rattle.layout.specs.Table.{Limits};
-ghost use Rattle.layout.specs.Viewed.{signals_of, clauses_of};
+ghost use Rattle.layout.specs.Viewed.{signals_of};
 ghost use Rattle.soundness.specs.Soundness.{SoundPool};
 ghost use Rattle.rules.specs.Spare.{Spare};
 ghost use Rattle.game.specs.Replies.{Replied};

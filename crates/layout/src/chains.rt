@@ -1,5 +1,5 @@
 // The chains that a game begins with: the formula's clauses, and the clause chain of each level.
-ghost use Rattle.std.specs.Prelude.{◌≡◌, ℕ, ◌+◌, ◌<◌, ◌≤◌, cond, List, [], ◌∷◌, length, take, neg_ℤ, unsigned_abs};
+ghost use Rattle.std.specs.Prelude.{◌≡◌, ◌+◌, ◌<◌, ◌≤◌, [], ◌∷◌, length, take, neg_ℤ, unsigned_abs};
 ghost use Rattle.formula.specs.Lists.{elem};
 ghost use Rattle.formula.specs.Model.{qbf, level_at};
 ghost use Rattle.strategy.specs.Records.{literals_on};

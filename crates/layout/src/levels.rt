@@ -1,5 +1,5 @@
 // The variables of a level, as the table keeps them: a flag for each number. Levels count from 0.
-ghost use Rattle.std.specs.Prelude.{◌≡◌, ℕ, ◌<◌, ◌≤◌, length, ◌==◌, unsigned_abs};
+ghost use Rattle.std.specs.Prelude.{◌≡◌, ◌<◌, ◌≤◌, length, ◌==◌, unsigned_abs};
 ghost use Rattle.formula.specs.Backward.{is_choice};
 ghost use Rattle.layout.specs.Table.{Limits};
 ghost use Rattle.layout.specs.Shown.{variables_at};

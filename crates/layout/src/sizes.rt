@@ -1,5 +1,5 @@
 // How many words a game begins with, counted before the first is written.
-ghost use Rattle.std.specs.Prelude.{◌≡◌, ℕ, ◌<◌, ◌≤◌, length};
+ghost use Rattle.std.specs.Prelude.{◌≡◌, ◌<◌, ◌≤◌, length};
 ghost use Rattle.formula.specs.Model.{qbf, level_at};
 ghost use Rattle.layout.specs.Laying.{words_for};
 ghost use Rattle.layout.specs.Opening.{clause_records, level_records, words_needed};

@@ -1,5 +1,5 @@
 // The newest entry of a level that fits a set of satisfied clauses.
-ghost use Rattle.std.specs.Prelude.{◌≡◌, ℕ, ◌+◌, ◌<◌, ◌≤◌, true, false, length, get_or, IfSome, MatchOption, slice_index_or};
+ghost use Rattle.std.specs.Prelude.{◌≡◌, ◌+◌, ◌<◌, true, false, length, get_or, IfSome, MatchOption, slice_index_or};
 ghost use Rattle.std.proofs.Math.Option.{none, some};
 ghost use Rattle.formula.specs.Lists.{all, find};
 ghost use Rattle.strategy.specs.Entries.{fits_when};

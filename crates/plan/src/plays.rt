@@ -1,5 +1,5 @@
 // A play given as one list of literals: whether it is one, and which clauses it satisfies.
-ghost use Rattle.std.specs.Prelude.{◌≡◌, ℕ, ◌<◌, ◌≤◌, false, length, take, slice_index_or};
+ghost use Rattle.std.specs.Prelude.{◌≡◌, ℕ, ◌<◌, ◌≤◌, false, take, slice_index_or};
 ghost use Rattle.formula.specs.Lists.{any};
 ghost use Rattle.formula.specs.Game.{same, has, hits};
 ghost use Rattle.strategy.specs.RecordedPlan.{is_flat_play};

@@ -1,5 +1,5 @@
 // A chain that is known to be sound, read one record after another from its head.
-ghost use Rattle.std.specs.Prelude.{◌≡◌, ℕ, true, false, List, [], ◌∷◌, length, IfSome, Decides, MatchOption};
+ghost use Rattle.std.specs.Prelude.{◌≡◌, true, false, [], ◌∷◌, length, IfSome, Decides, MatchOption};
 ghost use Rattle.std.specs.List.{AllByRecursion};
 ghost use Rattle.pool.specs.Records.{records, Literal, Sound};
 ghost use Rattle.pool.specs.Tests.{is_linked};

@@ -1,5 +1,5 @@
 // A record more in front of a chain, directly behind the words in use.
-ghost use Rattle.std.specs.Prelude.{◌≡◌, ℕ, ◌+◌, ◌<◌, ◌≤◌, length};
+ghost use Rattle.std.specs.Prelude.{◌+◌, ◌<◌};
 ghost use Rattle.pool.specs.Append.{Appended, Grows, Keeps};
 
 // The head of a chain after a record was appended, and the words then in use.

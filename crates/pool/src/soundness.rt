@@ -1,5 +1,5 @@
 // Whether a chain is sound, and how one of its records is read.
-ghost use Rattle.std.specs.Prelude.{◌≡◌, ℕ, ◌+◌, ◌<◌, ◌≤◌, length, Decides};
+ghost use Rattle.std.specs.Prelude.{◌≡◌, ◌+◌, ◌<◌, ◌≤◌, length, Decides};
 ghost use Rattle.std.specs.List.{AllByRecursion};
 ghost use Rattle.pool.specs.Layout.{next_at, numbers_at, Lies};
 ghost use Rattle.pool.specs.Records.{Literal, Whole, Sound};

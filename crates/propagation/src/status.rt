@@ -1,8 +1,8 @@
 // What a record comes to under the values of some of the signals.
-ghost use Rattle.std.specs.Prelude.{◌≡◌, ℕ, ◌-◌, ◌<◌, length, unsigned_abs};
+ghost use Rattle.std.specs.Prelude.{◌≡◌, ◌-◌, ◌<◌, length, unsigned_abs};
 ghost use Rattle.std.specs.List.{AllByRecursion};
 ghost use Rattle.pool.specs.Records.{Literal};
-ghost use Rattle.propagation.specs.Rows.{word_of, Shaped};
+ghost use Rattle.propagation.specs.Rows.{word_of};
 ghost use Rattle.propagation.specs.Steps.{Weighed};
 
 // One number is true, all are false, all but one open one are false, or none of these.

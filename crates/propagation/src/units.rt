@@ -1,5 +1,5 @@
 // Records with one open number and no true one are followed, round after round, until no such record is left.
-ghost use Rattle.std.specs.Prelude.{◌≡◌, ℕ, ◌-◌, ◌<◌, length, slice_set, unsigned_abs};
+ghost use Rattle.std.specs.Prelude.{◌≡◌, ◌-◌, ◌<◌, length, slice_set, unsigned_abs};
 ghost use Rattle.pool.specs.Records.{Literal};
 ghost use Rattle.pool.specs.Chains.{records_of, signals_of};
 ghost use Rattle.propagation.specs.Steps.{Ready, Propagated};

@@ -1,6 +1,6 @@
 // The header of a text: the words p, cnf, the number of variables, the number of clauses.
 ghost use Rattle.std.specs.Prelude.{◌≡◌, ◌≤◌, Err, MatchResult};
-ghost use Rattle.reader.specs.Words.{said, first, rest};
+ghost use Rattle.reader.specs.Words.{said};
 ghost use Rattle.reader.specs.Text.{between, reading, p_due, cnf_due, is_cnf, counted, count_due, headed};
 ghost use Rattle.reader.specs.Left.{left, size};
 ghost use Rattle.formula.specs.Built.{blank};

@@ -1,5 +1,5 @@
 // A whole text: comments, the header, the blocks, the clauses, and nothing after them.
-ghost use Rattle.std.specs.Prelude.{◌≡◌, ℕ, ◌≤◌, true, length, None, Err, MatchResult};
+ghost use Rattle.std.specs.Prelude.{◌≡◌, ℕ, true, None, Err, MatchResult};
 ghost use Rattle.reader.specs.Words.{said, first};
 ghost use Rattle.reader.specs.Text.{between, block_side, reading, headed, reads, of_device, after_device};
 ghost use Rattle.reader.specs.Text.{clauses as clauses'};
@@ -7,7 +7,6 @@ ghost use Rattle.reader.specs.Left.{left, size, drawn, formula_in};
 ghost use Rattle.reader.specs.Grammar.{Writes};
 ghost use Rattle.formula.specs.Game.{Qbf};
 ghost use Rattle.formula.specs.Model.{qbf};
-ghost use Rattle.reader.specs.Continues.{Goes, Fails};
 ghost use Rattle.formula.specs.Built.{Built};
 
 use crate::blocks::read_blocks;

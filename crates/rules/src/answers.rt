@@ -1,5 +1,5 @@
 // What an answer about the present level changes in a game and its pool.
-ghost use Rattle.std.specs.Prelude.{◌≡◌, ℕ, suc, ◌-◌, ◌<◌, ◌≤◌, length};
+ghost use Rattle.std.specs.Prelude.{◌≡◌, suc, ◌-◌, ◌<◌, ◌≤◌, length};
 ghost use Rattle.strategy.specs.Questions.{clauses_named};
 ghost use Rattle.strategy.specs.Next.{satisfied};
 ghost use Rattle.layout.specs.Table.{Limits, level_of};

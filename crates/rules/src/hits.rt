@@ -1,5 +1,5 @@
 // Which clauses of the formula, as the pool has it, are hit by the values that a level keeps.
-ghost use Rattle.std.specs.Prelude.{◌≡◌, ℕ, ◌<◌, ◌≤◌, Bool, true, false, ◌||◌, length, slice_index_or};
+ghost use Rattle.std.specs.Prelude.{◌≡◌, ℕ, ◌<◌, ◌≤◌, true, false, ◌||◌, slice_index_or};
 ghost use Rattle.formula.specs.Lists.{any};
 ghost use Rattle.formula.specs.Game.{has, hits};
 ghost use Rattle.layout.specs.Table.{Limits};

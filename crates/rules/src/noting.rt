@@ -1,10 +1,9 @@
 // What a step writes: entries, and records that a level learns.
-ghost use Rattle.std.specs.Prelude.{◌≡◌, ℕ, ◌+◌, ◌<◌, ◌≤◌, Bool, true, false, List, ◌++◌, length, take, slice_index};
+ghost use Rattle.std.specs.Prelude.{◌≡◌, ℕ, ◌+◌, ◌<◌, ◌≤◌, true, false, length, take, slice_index};
 ghost use Rattle.formula.specs.Lists.{each};
 ghost use Rattle.formula.specs.Game.{Clauses};
 ghost use Rattle.strategy.specs.Records.{learned_record, entry_record};
 ghost use Rattle.pool.specs.Append.{Room};
-ghost use Rattle.layout.specs.Laying.{Laid};
 ghost use Rattle.layout.specs.Table.{Limits, level_of};
 ghost use Rattle.layout.specs.Viewed.{values_in};
 ghost use Rattle.rules.specs.Noting.{entries_to, chain_to, with_level, entry_written, record_written};

@@ -1,5 +1,5 @@
 // The question of a step about the present level: what it assumes of the clauses.
-ghost use Rattle.std.specs.Prelude.{◌≡◌, ℕ, ◌<◌, ◌≤◌, Bool, false, length, take, pos, neg_ℤ, slice_index_or};
+ghost use Rattle.std.specs.Prelude.{◌≡◌, ℕ, ◌<◌, ◌≤◌, Bool, false, take, pos, neg_ℤ, slice_index_or};
 ghost use Rattle.strategy.specs.Signals.{signal};
 ghost use Rattle.strategy.specs.Records.{assumptions};
 ghost use Rattle.strategy.specs.Questions.{assumed, assumed_clauses};

@@ -1,6 +1,5 @@
 // The set of clauses of a new entry.
-ghost use Rattle.std.specs.Prelude.{◌≡◌, ℕ, suc, ◌+◌, ◌<◌, ◌≤◌, Bool, true, false, List, ◌++◌, length, take, slice_index_or};
-ghost use Rattle.formula.specs.Lists.{keep};
+ghost use Rattle.std.specs.Prelude.{◌≡◌, ◌+◌, ◌≤◌, true, false, length, take, slice_index_or};
 ghost use Rattle.strategy.specs.Steps.{last_entry_set, entry_set};
 ghost use Rattle.strategy.specs.Questions.{clauses_named};
 ghost use Rattle.rules.specs.Naming.{base_of, wanted, Names};

@@ -1,5 +1,5 @@
 // The values of a level's variables: as an engine gives them, and as an entry lists them.
-ghost use Rattle.std.specs.Prelude.{◌≡◌, ℕ, ◌+◌, ◌-◌, ◌<◌, ◌≤◌, Bool, true, false, ◌&&◌, List, ◌++◌, length, take, pos, neg_ℤ, int_lt, slice_index_or};
+ghost use Rattle.std.specs.Prelude.{◌≡◌, ℕ, ◌+◌, ◌-◌, ◌≤◌, false, ◌++◌, length, take, pos, int_lt, slice_index_or};
 ghost use Rattle.layout.specs.Viewed.{values_in};
 ghost use Rattle.rules.specs.Values.{literal_of};
 ghost use Rattle.rules.specs.Changes.{flags_for, values_said};

@@ -57,7 +57,7 @@ fn run(rt: &HostRuntime) -> anyhow::Result<bool> {
     Ok(play(rt, &mut table, pool.as_mut_slice())?)
 }
 
-// The process ends with status 1 where the text is refused, or the game is not decided.
+// The process ends with status 1 where the text is refused, the game is not decided, or the check does not accept.
 fn main(rt: HostRuntime) -> anyhow::Result<ExitCode> {
     if run(&rt)? {
         Ok(ExitCode::SUCCESS)

@@ -1,5 +1,5 @@
 // Whether a record has the form of an entry: the signals of a set of clauses, then a literal for each variable of the level.
-ghost use Rattle.std.specs.Prelude.{◌≡◌, ℕ, ◌<◌, ◌≤◌, Decides};
+ghost use Rattle.std.specs.Prelude.{◌≡◌, ◌<◌, Decides};
 ghost use Rattle.layout.specs.Table.{Limits, level_of};
 ghost use Rattle.layout.specs.Shown.{variables_at};
 ghost use Rattle.soundness.specs.Soundness.{EntryForm};

@@ -1,5 +1,5 @@
 // Whether a pool can be read as the game that a table speaks of. The caller owns the pool, so each call asks this again.
-ghost use Rattle.std.specs.Prelude.{◌≡◌, ℕ, ◌<◌, ◌≤◌, true, Decides, unsigned_abs};
+ghost use Rattle.std.specs.Prelude.{◌≡◌, ◌<◌, true, Decides, unsigned_abs};
 ghost use Rattle.formula.specs.Lists.{All};
 ghost use Rattle.formula.specs.Proper.{Bound};
 ghost use Rattle.pool.specs.Records.{records, Sound};

@@ -1,6 +1,6 @@
 // The trimmer: it goes through the assumptions that a 'no' names, from first to last,
 // and drops each one without which the engine below still says no.
-ghost use Rattle.std.specs.Prelude.{◌≡◌, ℕ, ◌-◌, ◌<◌, ◌≤◌, min, length, take, Decides};
+ghost use Rattle.std.specs.Prelude.{◌≡◌, ◌-◌, ◌<◌, ◌≤◌, min, length, take, Decides};
 ghost use Rattle.engine.specs.Asking.{asked};
 ghost use Rattle.engine.specs.Meaning.{clauses, Proper, Clash, Part, Answered};
 ghost use Rattle.trimmer.specs.Trim.{assuming, without, Needed, Trimmed};

@@ -1,4 +1,5 @@
 use Rattle.std.proofs.Common.{◌≡◌, ◌-◌, true, false, length, get_or, set, replicate, pos, refl, ap, ◌∙◌, inl, inr, ⊎_elim, arith, w32, SFits, rules}
+use Rattle.std.specs.List.{AllByRecursion}
 use Rattle.std.proofs.ByRecursion.{All-weaker}
 use Rattle.std.proofs.lemmas.List.{length-set, get_or-replicate}
 use Rattle.std.proofs.lemmas.Int.{to_z-of_z}
@@ -16,7 +17,9 @@ mark_signals-requires c =
     let i = get_or c.args.trail.now (c.loop-t.t - 1) 0 in
     let long = length-set row i (pos 0) in
     let space = c.requires.space in
-    All-weaker (Literal (length (set row i (pos 0)))) (Literal (length c.loop-t.marks)) (λ x h. let high = h.1 in (h.0, omega arith)) c.in-Some.numbers.now c.in-Some.ensures.0
+    let within : AllByRecursion (Literal (length c.loop-t.marks)) c.in-Some.numbers.now =
+    All-weaker (Literal (length (set row i (pos 0)))) (Literal (length c.loop-t.marks)) (λ x h. let high = h.1 in (h.0, omega arith)) c.in-Some.numbers.now c.in-Some.ensures.0 in
+    search rules
 
 -- the signal was marked, and a record that forced it is found
 pub loop-t-preserved-in-Some : goal.loop-t-preserved-in-Some
