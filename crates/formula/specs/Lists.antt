@@ -1,21 +1,19 @@
 -- Tests and types over lists. A test is a Bool, and `T b` says that it passes.
-use Rattle.std.specs.Prelude.{◌≡◌, ℕ, zero, suc, ◌+◌, Bool, true, false, cond, ◌&&◌, ◌||◌, ◌⊎◌, List, [], ◌∷◌, ◌==◌}
+use Rattle.std.specs.Prelude.{◌≡◌, ℕ, zero, suc, ◌+◌, Bool, false, cond, ◌||◌, ◌⊎◌, List, [], ◌∷◌, map, ◌==◌}
+use Rattle.std.specs.List.{list_all, list_any, filter, AllByRecursion}
 use Rattle.std.proofs.Math.Option.{Option, none, some}
 
 module _ {A : Type 0} where
   -- p passes at each element; at some element
   abbrev pub all : (A → Bool) → List A → Bool
-  all p [] = true
-  all p (x ∷ xs) = p x && all p xs
+  all p xs = list_all p xs
 
   abbrev pub any : (A → Bool) → List A → Bool
-  any p [] = false
-  any p (x ∷ xs) = p x || any p xs
+  any p xs = list_any p xs
 
   -- the elements that pass, in their order
   abbrev pub keep : (A → Bool) → List A → List A
-  keep p [] = []
-  keep p (x ∷ xs) = cond (p x) (x ∷ keep p xs) (keep p xs)
+  keep p xs = filter p xs
 
   -- how many elements pass
   abbrev pub count : (A → Bool) → List A → ℕ
@@ -34,16 +32,14 @@ module _ {A : Type 0} where
 
   -- P holds of each element; of some element
   abbrev pub All : (A → Type 0) → List A → Type 0
-  All P [] = Unit {0}
-  All P (x ∷ xs) = P x × All P xs
+  All P xs = AllByRecursion P xs
 
   abbrev pub Any : (A → Type 0) → List A → Type 0
   Any P [] = ⊥
   Any P (x ∷ xs) = P x ⊎ Any P xs
 
 abbrev pub each : {A B : Type 0} → (A → B) → List A → List B
-each f [] = []
-each f (x ∷ xs) = f x ∷ each f xs
+each f xs = map f xs
 
 -- a set of clauses is a list of their numbers
 abbrev pub elem : ℕ → List ℕ → Bool

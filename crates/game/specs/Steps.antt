@@ -10,8 +10,7 @@ use Rattle.layout.specs.Viewed.{view_of, clauses_of}
 use Rattle.soundness.specs.Soundness.{SoundPool}
 use Rattle.rules.specs.Changes.{held, stepped}
 use Rattle.game.specs.declared.refusals.StepFault.{StepFault}
-use Rattle.game.specs.declared.stepping.Progress.{Progress}
-use Rattle.game.specs.declared.stepping.Progress.TheVariants.{WentOn, Decided}
+use Rattle.game.specs.declared.verdict.Verdict.{Verdict}
 use Rattle.game.specs.Refusals.{MayStep, StepRefused}
 use Rattle.game.specs.Verdicts.{verdict_of}
 
@@ -29,12 +28,12 @@ pub record Played (g : Game) (pool : List ℤ) (g' : Game) (pool' : List ℤ) : 
   pub limits : Limits g'
   pub filled : Filled g'
 
--- what a step says: the game goes on, or its verdict
-abbrev pub progress : ℕ → Option Side → Progress
-progress number None = WentOn
-progress number (Some w) = Decided (verdict_of number w)
+-- what a step says: the verdict of the game, or none where it goes on
+abbrev pub progress : ℕ → Option Side → Option Verdict
+progress number None = None
+progress number (Some w) = Some (verdict_of number w)
 
 -- Over an engine that takes up to `most` signals: table and pool before, and after.
-abbrev pub StepGives : ℕ → Bool → Game → List ℤ → Bool → Game → List ℤ → Result Progress StepFault → Type 0
+abbrev pub StepGives : ℕ → Bool → Game → List ℤ → Bool → Game → List ℤ → Result (Option Verdict) StepFault → Type 0
 StepGives most holds g pool holds' g' pool' (Ok said) = MayStep most holds g pool × (holds' ≡ true) × Played g pool g' pool' × (said ≡ progress g'.number g'.verdict)
 StepGives most holds g pool holds' g' pool' (Err fault) = StepRefused most holds g pool fault × (holds' ≡ holds) × (g' ≡ g) × (pool' ≡ pool)

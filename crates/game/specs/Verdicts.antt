@@ -5,6 +5,7 @@ use Rattle.formula.specs.declared.side.Side.{Side}
 use Rattle.layout.specs.Table.{blank_game}
 use Rattle.layout.specs.declared.game.Game.{Game}
 use Rattle.game.specs.declared.verdict.Verdict.{Verdict}
+use Rattle.game.specs.declared.ending.NotItsVerdict.{NotItsVerdict}
 
 abbrev pub verdict_of : ℕ → Side → Verdict
 verdict_of n w = record { number = n; side = w }
@@ -18,8 +19,11 @@ abbrev pub is_verdict_of : Bool → Game → Verdict → Bool
 is_verdict_of holds g v = holds && (g.number == v.number && is_won_by g.verdict v.side)
 
 -- The verdict back where it is not of that game; otherwise the table is emptied, as a new one is.
-abbrev pub retiring : Bool → Game → Verdict → Result (Unit {0}) Verdict
-retiring holds g v = cond (is_verdict_of holds g v) (Ok tt) (Err v)
+abbrev pub retiring : Bool → Game → Verdict → Result (Unit {0}) NotItsVerdict
+retiring holds g v = cond (is_verdict_of holds g v) (Ok tt) (Err (record { verdict = v }))
+
+abbrev pub retire_number : NotItsVerdict → ℕ
+retire_number refusal = 36
 
 abbrev pub holds_after : Bool → Game → Verdict → Bool
 holds_after holds g v = cond (is_verdict_of holds g v) false holds

@@ -10,12 +10,12 @@ mod stepping;
 mod table;
 mod verdict;
 
-pub use ending::{NOT_ITS_VERDICT, retire};
+pub use ending::{NotItsVerdict, retire};
 pub use faults::GameFault;
 pub use moves::{MoveFault, next_move};
 pub use opening::open;
 pub use refusals::StepFault;
-pub use stepping::{Progress, step};
+pub use stepping::step;
 pub use table::Table;
 pub use verdict::Verdict;
 

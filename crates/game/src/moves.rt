@@ -2,6 +2,7 @@
 ghost use Rattle.std.specs.Prelude.{◌≡◌, ◌≤◌, ◌++◌, length, drop, MatchResult};
 ghost use Rattle.layout.specs.Table.{Limits};
 ghost use Rattle.plan.specs.NextMove.{is_level_of};
+ghost use Rattle.game.specs.Tables.{is_held, game_in};
 ghost use Rattle.game.specs.Moves.{move_number, called, Refused, Taken, Moved};
 
 use crate::table::Table;
@@ -48,45 +49,37 @@ fn is_level_of(game: &Game, side: Side, level: usize) -> bool
     requires { Limits game.now }
     ensures { result ≡ is_level_of game.now side level }
 {
-    if level == 0 || level > game.depth {
-        return false;
-    }
-    match (game.levels[level - 1].side, side) {
-        (Side::Ours, Side::Ours) | (Side::Device, Side::Device) => true,
-        _ => false,
-    }
+    level >= 1 && level <= game.depth && game.levels[level - 1].side == side
 }
 
-// The refusals, in their order, for a slice of so many words.
-fn admit(
-    table: &Table,
+// The table's game, or the first refusal, for a slice of so many words.
+fn admit<'a>(
+    table: &'a Table,
     verdict: &Verdict,
     pool: &[i32],
     level: usize,
     play: &[i32],
     room: usize,
-) -> Result<(), MoveFault>
-    ensures { MatchResult result (λ _. Taken (called table.now.holds table.now.game verdict.now pool.now level play.now room)) (Refused (called table.now.holds table.now.game verdict.now pool.now level play.now room)) }
+) -> Result<&'a Game, MoveFault>
+    ensures { MatchResult result (λ g. (g.now ≡ game_in table.now.game) × Taken (called (is_held table.now.game) (game_in table.now.game) verdict.now pool.now level play.now room)) (Refused (called (is_held table.now.game) (game_in table.now.game) verdict.now pool.now level play.now room)) }
 {
-    if !table.holds {
-        return Err(MoveFault::EmptyTable);
-    }
+    let game = table.game().ok_or(MoveFault::EmptyTable)?;
     if !verdict.is_of(table) {
         return Err(MoveFault::NotItsVerdict);
     }
-    if !is_sound(&table.game, pool) {
+    if !is_sound(game, pool) {
         return Err(MoveFault::UnsoundPool);
     }
-    if !is_level_of(&table.game, verdict.side(), level) {
+    if !is_level_of(game, verdict.side(), level) {
         return Err(MoveFault::NotTheWinnersLevel);
     }
-    if !is_play(&table.game, level - 1, play) {
+    if !is_play(game, level - 1, play) {
         return Err(MoveFault::NotAPlay);
     }
-    if room < count_variables(&table.game, level - 1) {
+    if room < count_variables(game, level - 1) {
         return Err(MoveFault::ShortSlice);
     }
-    Ok(())
+    Ok(game)
 }
 
 // Writes values to the front of a slice, and counts them.
@@ -109,12 +102,12 @@ pub fn next_move(
     play: &[i32],
     values: &mut [i32],
 ) -> Result<Option<usize>, MoveFault>
-    ensures { Moved (called table.now.holds table.now.game verdict.now pool.now level play.now (length values.old)) values.old values.new result }
+    ensures { Moved (called (is_held table.now.game) (game_in table.now.game) verdict.now pool.now level play.now (length values.old)) values.old values.new result }
 {
-    admit(table, verdict, pool, level, play, values.len())?;
-    let satisfied = satisfied(&table.game, pool, play);
-    match newest_fitting(&table.game, pool, level - 1, &satisfied) {
-        Some(x) => Ok(Some(write(x, values))),
-        None => Ok(None),
-    }
+    let game = admit(table, verdict, pool, level, play, values.len())?;
+    let satisfied = satisfied(game, pool, play);
+    let Some(x) = newest_fitting(game, pool, level - 1, &satisfied) else {
+        return Ok(None);
+    };
+    Ok(Some(write(x, values)))
 }

@@ -4,6 +4,7 @@ ghost use Rattle.formula.specs.Game.{Qbf};
 ghost use Rattle.reader.specs.Text.{reads};
 ghost use Rattle.layout.specs.Begun.{Begun};
 ghost use Rattle.soundness.specs.Soundness.{SoundPool};
+ghost use Rattle.game.specs.Tables.{is_held, game_in};
 ghost use Rattle.game.specs.Opens.{opening, open_gives, pool_after, game_after, holds_after};
 
 use crate::faults::{GameFault, MAX_POOL};
@@ -15,10 +16,10 @@ use reader::read;
 pub fn open(table: &mut Table, pool: &mut [i32], text: &[u8], number: u16) -> Result<(), GameFault>
     ensures gives { result ≡ open_gives (opening (length pool.old) (reads text.now)) }
     ensures words { pool.new ≡ pool_after pool.old (opening (length pool.old) (reads text.now)) }
-    ensures game { table.new.game ≡ game_after table.old.game number pool.old (opening (length pool.old) (reads text.now)) }
-    ensures holds { table.new.holds ≡ holds_after table.old.holds (opening (length pool.old) (reads text.now)) }
-    ensures begins { (q : Qbf) → opening (length pool.old) (reads text.now) ≡ Ok q → Begun q table.new.game pool.new }
-    ensures sound { (q : Qbf) → opening (length pool.old) (reads text.now) ≡ Ok q → SoundPool table.new.game pool.new }
+    ensures game { game_in table.new.game ≡ game_after (game_in table.old.game) number pool.old (opening (length pool.old) (reads text.now)) }
+    ensures holds { is_held table.new.game ≡ holds_after (is_held table.old.game) (opening (length pool.old) (reads text.now)) }
+    ensures begins { (q : Qbf) → opening (length pool.old) (reads text.now) ≡ Ok q → Begun q (game_in table.new.game) pool.new }
+    ensures sound { (q : Qbf) → opening (length pool.old) (reads text.now) ≡ Ok q → SoundPool (game_in table.new.game) pool.new }
 {
     if pool.len() > MAX_POOL {
         return Err(GameFault::PoolTooLong);
@@ -27,9 +28,6 @@ pub fn open(table: &mut Table, pool: &mut [i32], text: &[u8], number: u16) -> Re
     if pool.len() < words_needed(&formula) {
         return Err(GameFault::PoolTooShort);
     }
-    *table = Table {
-        game: write_game(&formula, pool, number),
-        holds: true,
-    };
+    table.game = Some(write_game(&formula, pool, number));
     Ok(())
 }

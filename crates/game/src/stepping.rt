@@ -7,6 +7,7 @@ ghost use Rattle.layout.specs.Viewed.{signals_of};
 ghost use Rattle.soundness.specs.Soundness.{SoundPool};
 ghost use Rattle.rules.specs.Spare.{Spare};
 ghost use Rattle.game.specs.Replies.{Replied};
+ghost use Rattle.game.specs.Tables.{is_held, game_in};
 ghost use Rattle.game.specs.Steps.{Played, StepGives};
 
 use crate::refusals::{StepFault, may_step};
@@ -16,13 +17,6 @@ use engine::{Answer, Engine, Question};
 use formula::Side;
 use layout::{Game, count_signals};
 use rules::{apply, assumptions_of};
-
-// What a step comes to.
-#[derive(Drop)]
-pub enum Progress {
-    WentOn,
-    Decided(Verdict),
-}
 
 // Puts the question about the present level.
 fn ask<E: Engine>(engine: &mut E, game: &Game, pool: &[i32], out: &mut [i32; 1280]) -> Answer
@@ -45,10 +39,10 @@ fn ask<E: Engine>(engine: &mut E, game: &Game, pool: &[i32], out: &mut [i32; 128
         head: level.chain,
         assumptions: &assumed[0..count],
     };
-    match engine.ask(question, out) {
-        Ok(answer) => answer,
-        Err(_) => unreachable(),
-    }
+    let Ok(answer) = engine.ask(question, out) else {
+        unreachable()
+    };
+    answer
 }
 
 // With no level, ours has won when there is no clause.
@@ -76,18 +70,18 @@ fn play<E: Engine>(game: &mut Game, engine: &mut E, pool: &mut [i32])
     apply(game, pool, answer, &out);
 }
 
-// One step of the table's game over the engine. A refusal changes neither table nor pool.
+// One step of the table's game over the engine: its verdict, or none where it goes on. A refusal changes neither table nor pool.
 pub fn step<E: Engine>(
     table: &mut Table,
     engine: &mut E,
     pool: &mut [i32],
-) -> Result<Progress, StepFault>
-    ensures { StepGives E.Engine.most table.old.holds table.old.game pool.old table.new.holds table.new.game pool.new result }
+) -> Result<Option<Verdict>, StepFault>
+    ensures { StepGives E.Engine.most (is_held table.old.game) (game_in table.old.game) pool.old (is_held table.new.game) (game_in table.new.game) pool.new result }
 {
-    may_step(table, pool, E::largest())?;
-    play(&mut table.game, engine, pool);
-    match table.game.verdict {
-        Some(side) => Ok(Progress::Decided(Verdict::new(table.game.number, side))),
-        None => Ok(Progress::WentOn),
-    }
+    let Some(game) = &mut table.game else {
+        return Err(StepFault::EmptyTable);
+    };
+    may_step(game, pool, E::largest())?;
+    play(game, engine, pool);
+    Ok(game.verdict.map(|side| Verdict::new(game.number, side)))
 }

@@ -1,6 +1,7 @@
 // The verdict of a decided game, as a token: step makes it, the winner's moves are asked for with it, and retire takes it in.
 // It is two plain numbers, so that it says which game it is of and no more.
 ghost use Rattle.std.specs.Prelude.{◌≡◌};
+ghost use Rattle.game.specs.Tables.{is_held, game_in};
 ghost use Rattle.game.specs.Verdicts.{verdict_of, is_verdict_of};
 
 use crate::table::Table;
@@ -35,14 +36,11 @@ impl Verdict {
 
     // Whether the table holds a game of this number that this side has won.
     pub(crate) fn is_of(&self, table: &Table) -> bool
-        ensures { result ≡ is_verdict_of table.now.holds table.now.game self.now }
+        ensures { result ≡ is_verdict_of (is_held table.now.game) (game_in table.now.game) self.now }
     {
-        if !table.holds || table.game.number != self.number {
-            return false;
-        }
-        match (table.game.verdict, self.side) {
-            (Some(Side::Ours), Side::Ours) | (Some(Side::Device), Side::Device) => true,
-            _ => false,
+        match &table.game {
+            Some(game) => game.number == self.number && game.verdict == Some(self.side),
+            None => false,
         }
     }
 }

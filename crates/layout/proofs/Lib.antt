@@ -1,6 +1,7 @@
 pub mod Begun
 pub mod Choosing
 pub mod Counted
+pub mod Flags
 pub mod Formulas
 pub mod Grown
 pub mod Keeping

@@ -1,10 +1,20 @@
 // The variables of a level, as the table keeps them: a flag for each number. Levels count from 0.
-ghost use Rattle.std.specs.Prelude.{◌≡◌, ◌<◌, ◌≤◌, length, ◌==◌, unsigned_abs};
+ghost use Rattle.std.specs.Prelude.{◌≡◌, ◌<◌, ◌≤◌, false, length, ◌==◌, slice_index_or, unsigned_abs};
+ghost use Rattle.formula.specs.Lists.{keep, from};
 ghost use Rattle.formula.specs.Backward.{is_choice};
 ghost use Rattle.layout.specs.Table.{Limits};
 ghost use Rattle.layout.specs.Shown.{variables_at};
 
 use crate::game::Game;
+
+// How many of the variables 1 to n are flagged.
+pub fn count_flags(variables: usize, flags: &[bool; 257]) -> usize
+    requires { variables ≤ 256 }
+    ensures count { result ≡ length (keep (λ v. slice_index_or flags.now v false) (from 1 variables)) }
+    ensures few { result ≤ 256 }
+{
+    flags[1..variables + 1].iter().filter(|flag| **flag).count()
+}
 
 // How many variables a level has.
 pub fn count_variables(game: &Game, m: usize) -> usize
@@ -12,13 +22,7 @@ pub fn count_variables(game: &Game, m: usize) -> usize
     ensures count { result ≡ length (variables_at game.now m) }
     ensures few { result ≤ 256 }
 {
-    let mut count = 0;
-    for v in 1..game.variables + 1 {
-        if game.levels[m].variables[v] {
-            count += 1;
-        }
-    }
-    count
+    count_flags(game.variables, &game.levels[m].variables)
 }
 
 // Whether a number is a literal of the variable v.

@@ -14,7 +14,7 @@ mod writing;
 
 pub use game::{BLANK, Game, Level};
 pub use laying::lay;
-pub use levels::{count_variables, is_choice};
+pub use levels::{count_flags, count_variables, is_choice};
 pub use signals::{b_signal, count_signals, magnitude, t_signal};
 pub use sizes::words_needed;
 pub use theorems::words_of_small_games;
