@@ -1,5 +1,5 @@
 -- Every call keeps what is known of a table; and so the law holds after any run.
-use Rattle.std.proofs.Common.{◌≡◌, ℕ, zero, suc, ◌<◌, ◌≤◌, Bool, true, false, cond, eqb, ltb, List, [], ◌∷◌, length, get_or, set, replicate, ℤ, None, Ok, Err, Result, sym, refl, ap, ◌∙◌, subst, ⊎_elim, arith}
+use Rattle.std.proofs.Common.{◌≡◌, ℕ, zero, suc, ◌<◌, ◌≤◌, Bool, true, false, cond, eqb, ltb, List, [], ◌∷◌, length, get_or, set, replicate, ℤ, None, Some, Ok, Err, Option, Result, sym, refl, ap, ◌∙◌, subst, ⊎_elim, arith}
 use mathlib.Core.Option.{none, some}
 use mathlib.Core.Option.{Option as Maybe}
 use Rattle.std.proofs.lemmas.List.{get_or-set_same, get_or-set_other, length-set}
@@ -24,8 +24,6 @@ use Rattle.rules.proofs.Noted.{length_clauses}
 use Rattle.game.specs.declared.faults.GameFault.{GameFault}
 use Rattle.game.specs.declared.faults.GameFault.TheVariants.{Text, PoolTooLong, PoolTooShort}
 use Rattle.game.specs.declared.refusals.StepFault.{StepFault}
-use Rattle.game.specs.declared.stepping.Progress.{Progress}
-use Rattle.game.specs.declared.stepping.Progress.TheVariants.{WentOn, Decided}
 use Rattle.game.specs.declared.verdict.Verdict.{Verdict}
 use Rattle.game.specs.Opens.{fitting, opening, open_gives, pool_after, game_after, holds_after}
 use Rattle.game.specs.Steps.{Played, StepGives}
@@ -149,13 +147,13 @@ stepped_stands q m p p' st undecided holds played = by st.state st.reached st.sh
           shows = subst (Shows C n _) (sym shown) on.1;
         }
 
-step_fits : (most : ℕ) (p p' : Place) (r : Result Progress StepFault) → StepGives most p.holds p.game p.words p'.holds p'.game p'.words r
+step_fits : (most : ℕ) (p p' : Place) (r : Result (Option Verdict) StepFault) → StepGives most p.holds p.game p.words p'.holds p'.game p'.words r
     → (f : Maybe Qbf) (m : ℕ) → Fits f m p → Fits f (steps_after (stepped-so (side_said r)) m) p'
 step_fits most p p' (Err fault) h f m fits = fits_same f m p p' h.1 h.2 h.3 fits
-step_fits most p p' (Ok WentOn) h none m fits = absurd (false≢true (sym fits ∙ h.0.playing.held))
-step_fits most p p' (Ok WentOn) h (some q) m fits = stepped_stands q m p p' fits h.0.playing.undecided h.1 h.2
-step_fits most p p' (Ok (Decided v)) h none m fits = absurd (false≢true (sym fits ∙ h.0.playing.held))
-step_fits most p p' (Ok (Decided v)) h (some q) m fits = stepped_stands q m p p' fits h.0.playing.undecided h.1 h.2
+step_fits most p p' (Ok None) h none m fits = absurd (false≢true (sym fits ∙ h.0.playing.held))
+step_fits most p p' (Ok None) h (some q) m fits = stepped_stands q m p p' fits h.0.playing.undecided h.1 h.2
+step_fits most p p' (Ok (Some v)) h none m fits = absurd (false≢true (sym fits ∙ h.0.playing.held))
+step_fits most p p' (Ok (Some v)) h (some q) m fits = stepped_stands q m p p' fits h.0.playing.undecided h.1 h.2
 
 -- retire: the table is empty, or as it was
 retire_fits : (p p' : Place) (b : Bool) (v : Verdict) → b ≡ taken (retiring p.holds p.game v) → p'.holds ≡ holds_retired p.holds p.game v → p'.game ≡ game_retired p.holds p.game v

@@ -9,8 +9,7 @@ use Rattle.soundness.specs.Soundness.{SoundPool}
 use Rattle.game.specs.declared.faults.GameFault.{GameFault}
 use Rattle.game.specs.declared.refusals.StepFault.{StepFault}
 use Rattle.game.specs.declared.moves.MoveFault.{MoveFault}
-use Rattle.game.specs.declared.stepping.Progress.{Progress}
-use Rattle.game.specs.declared.stepping.Progress.TheVariants.{WentOn, Decided}
+use Rattle.game.specs.declared.ending.NotItsVerdict.{NotItsVerdict}
 use Rattle.game.specs.declared.verdict.Verdict.{Verdict}
 use Rattle.game.specs.Opens.{opening, open_gives, pool_after, game_after, holds_after}
 use Rattle.game.specs.Steps.{StepGives}
@@ -37,24 +36,24 @@ pub record OpenedSo (text : List ℕ) (number : ℕ) (p : Place) (r : Result (Un
   pub verdict : p'.verdict ≡ verdict_opened p.verdict r
 
 -- Step: the verdict that it gives is kept.
-abbrev pub side_said : Result Progress StepFault → Result (Option Side) StepFault
-side_said (Ok WentOn) = Ok None
-side_said (Ok (Decided v)) = Ok (Some v.side)
+abbrev pub side_said : Result (Option Verdict) StepFault → Result (Option Side) StepFault
+side_said (Ok None) = Ok None
+side_said (Ok (Some v)) = Ok (Some v.side)
 side_said (Err fault) = Err fault
 
-abbrev pub verdict_stepped : Option Verdict → Result Progress StepFault → Option Verdict
-verdict_stepped old (Ok WentOn) = old
-verdict_stepped old (Ok (Decided v)) = Some v
+abbrev pub verdict_stepped : Option Verdict → Result (Option Verdict) StepFault → Option Verdict
+verdict_stepped old (Ok None) = old
+verdict_stepped old (Ok (Some v)) = Some v
 verdict_stepped old (Err fault) = old
 
 -- Retire: the verdict is handed in, or it comes back.
-abbrev pub taken : Result (Unit {0}) Verdict → Bool
+abbrev pub taken : Result (Unit {0}) NotItsVerdict → Bool
 taken (Ok u) = true
-taken (Err v) = false
+taken (Err refusal) = false
 
-abbrev pub verdict_retired : Result (Unit {0}) Verdict → Option Verdict
+abbrev pub verdict_retired : Result (Unit {0}) NotItsVerdict → Option Verdict
 verdict_retired (Ok u) = None
-verdict_retired (Err v) = Some v
+verdict_retired (Err refusal) = Some refusal.verdict
 
 -- Ask: the engine's answer, in so many words that were 0.
 abbrev pub AnsweredSo : ℕ → Asked → ℕ → Told → Type 0
@@ -70,7 +69,7 @@ AnsweredSo most q room (answered r words) = Answered most q (replicate room (pos
 -- Over an engine that takes up to `most` signals: what the call is told, and the table after it.
 pub data Happens (most : ℕ) : Act → Place → Told → Place → Type 0 where
   opens : {text : List ℕ} {number : ℕ} {p p' : Place} {r : Result (Unit {0}) GameFault} → OpenedSo text number p r p' → Happens most (open_text text number) p (opened r) p'
-  steps : {p p' : Place} {said : Result (Option Side) StepFault} (r : Result Progress StepFault) → said ≡ side_said r
+  steps : {p p' : Place} {said : Result (Option Side) StepFault} (r : Result (Option Verdict) StepFault) → said ≡ side_said r
       → StepGives most p.holds p.game p.words p'.holds p'.game p'.words r → p'.verdict ≡ verdict_stepped p.verdict r → Happens most step p (stepped said) p'
   moves : {level : ℕ} {play : List ℤ} {p : Place} {r : Result (Option ℕ) MoveFault} {values : List ℤ} (v : Verdict) → p.verdict ≡ Some v
       → Moved (called p.holds p.game v p.words level play 256) (replicate 256 (pos 0)) values r → Happens most (move_at level play) p (moved r values) p

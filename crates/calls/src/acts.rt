@@ -10,7 +10,7 @@ use crate::call::{Action, Outcome};
 use crate::words::zeros;
 use engine::{Engine, Question};
 use formula::Side;
-use game::{Progress, Table, Verdict, next_move, open, retire, step};
+use game::{Table, Verdict, next_move, open, retire, step};
 use std::alloc::{AllocError, Global};
 
 // A game that is begun leaves no verdict of an older one.
@@ -23,13 +23,11 @@ pub(crate) fn open_at(
 ) -> Outcome
     ensures { (most : ℕ) → Happens most (open_text text.now number) (place_with table.old pool.old verdict.old) (told_by result) (place_with table.new pool.new verdict.new) }
 {
-    match open(table, pool, text, number) {
-        Ok(()) => {
-            *verdict = None;
-            Outcome::Opened(Ok(()))
-        }
-        Err(fault) => Outcome::Opened(Err(fault)),
+    let opened = open(table, pool, text, number);
+    if opened.is_ok() {
+        *verdict = None;
     }
+    Outcome::Opened(opened)
 }
 
 // The verdict that a step gives is kept.
@@ -42,14 +40,12 @@ pub(crate) fn step_at<E: Engine>(
     ensures { Happens E.Engine.most step_act (place_with table.old pool.old verdict.old) (told_by result) (place_with table.new pool.new verdict.new) }
 {
     match step(table, engine, pool) {
-        Ok(progress) => match progress {
-            Progress::WentOn => Outcome::Stepped(Ok(None)),
-            Progress::Decided(given) => {
-                let side = given.side();
-                *verdict = Some(given);
-                Outcome::Stepped(Ok(Some(side)))
-            }
-        },
+        Ok(None) => Outcome::Stepped(Ok(None)),
+        Ok(Some(given)) => {
+            let side = given.side();
+            *verdict = Some(given);
+            Outcome::Stepped(Ok(Some(side)))
+        }
         Err(fault) => Outcome::Stepped(Err(fault)),
     }
 }
@@ -63,8 +59,8 @@ pub(crate) fn retire_at(table: &mut Table, pool: &[i32], verdict: &mut Option<Ve
     };
     match retire(table, given) {
         Ok(()) => Outcome::Retired(true),
-        Err(back) => {
-            *verdict = Some(back);
+        Err(refusal) => {
+            *verdict = Some(refusal.verdict);
             Outcome::Retired(false)
         }
     }

@@ -1,6 +1,6 @@
 // A table with a pool of its own, and the verdict that its game has given, as long as nobody has handed it in.
-ghost use Rattle.std.specs.Prelude.{◌≡◌, min, true, false, length, take, replicate, pos, IfOk, None, MatchOption};
-ghost use Rattle.layout.specs.Table.{blank_game};
+ghost use Rattle.std.specs.Prelude.{◌≡◌, min, true, length, take, replicate, pos, IfOk, None, MatchOption};
+ghost use Rattle.game.specs.Tables.{is_held, game_in};
 
 use crate::words::zeros;
 use game::{Table, Verdict};
@@ -16,7 +16,7 @@ pub struct Seat {
 impl Seat {
     // A table that holds no game, with a pool of so many words.
     pub fn new(heap: Global, words: usize) -> Result<Seat, AllocError>
-        ensures { IfOk result (λ s. (s.table.holds ≡ false) × (s.table.game ≡ blank_game) × (s.pool.items ≡ replicate words (pos 0)) × (s.verdict ≡ None)) }
+        ensures { IfOk result (λ s. (s.table.game ≡ None) × (s.pool.items ≡ replicate words (pos 0)) × (s.verdict ≡ None)) }
     {
         let pool = zeros(heap, words)?;
         Ok(Seat {
@@ -28,7 +28,7 @@ impl Seat {
 
     // The words that its game has in use, from word 0 on.
     pub fn words_in_use(&self) -> Option<&[i32]>
-        ensures { MatchOption result (self.now.table.holds ≡ false) (λ ws. (self.now.table.holds ≡ true) × (ws.now ≡ take (min self.now.table.game.used (length self.now.pool.items)) self.now.pool.items)) }
+        ensures { MatchOption result (self.now.table.game ≡ None) (λ ws. (is_held self.now.table.game ≡ true) × (ws.now ≡ take (min (game_in self.now.table.game).used (length self.now.pool.items)) self.now.pool.items)) }
     {
         let game = self.table.game()?;
         let pool = self.pool.as_slice();

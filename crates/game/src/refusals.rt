@@ -41,10 +41,11 @@ fn bound_variables(game: &Game) -> usize
     ensures count { result ≡ bound_by game.now }
     ensures few { result ≤ 8192 }
 {
-    game.levels[..game.depth]
-        .iter()
-        .map(|level| count_flags(game.variables, &level.variables))
-        .sum()
+    let mut total = 0;
+    for level in &game.levels[..game.depth] {
+        total += count_flags(game.variables, &level.variables);
+    }
+    total
 }
 
 // Whether a step of the game may be made over an engine that takes up to `most` signals.

@@ -39,10 +39,10 @@ fn ask<E: Engine>(engine: &mut E, game: &Game, pool: &[i32], out: &mut [i32; 128
         head: level.chain,
         assumptions: &assumed[0..count],
     };
-    let Ok(answer) = engine.ask(question, out) else {
-        unreachable()
-    };
-    answer
+    match engine.ask(question, out) {
+        Ok(answer) => answer,
+        Err(_) => unreachable(),
+    }
 }
 
 // With no level, ours has won when there is no clause.

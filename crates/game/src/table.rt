@@ -1,5 +1,6 @@
 // The table of a game: empty, or with the game that its last open began. The pool is the caller's.
 ghost use Rattle.std.specs.Prelude.{◌≡◌, None, Some, IfSome, MatchOption};
+ghost use Rattle.std.proofs.Props.{props};
 ghost use Rattle.layout.specs.Table.{Limits, Filled};
 
 use layout::Game;
@@ -7,8 +8,8 @@ use layout::Game;
 #[derive(Drop)]
 pub struct Table {
     pub(crate) game: Option<Game>,
-    ghost limits: { IfSome game Limits },
-    ghost filled: { IfSome game Filled },
+    ghost limits: { IfSome game Limits } by { Prim.hlevel props },
+    ghost filled: { IfSome game Filled } by { Prim.hlevel props },
 }
 
 impl Table {

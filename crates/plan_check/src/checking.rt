@@ -3,6 +3,7 @@ ghost use Rattle.std.specs.Prelude.{◌≤◌, Decides};
 ghost use Rattle.layout.specs.Table.{Limits};
 ghost use Rattle.layout.specs.Viewed.{signals_of};
 ghost use Rattle.soundness.specs.Soundness.{SoundPool};
+ghost use Rattle.game.specs.Tables.{is_held, game_in};
 ghost use Rattle.plan_check.specs.Checked.{Accepts, Checked};
 
 use crate::faults::CheckFault;
@@ -34,11 +35,9 @@ pub fn check<E: Engine>(
     pool: &[i32],
     side: Side,
 ) -> Result<bool, CheckFault>
-    ensures { Checked E.Engine.most table.now.holds table.now.game pool.now side result }
+    ensures { Checked E.Engine.most (is_held table.now.game) (game_in table.now.game) pool.now side result }
 {
-    let Some(game) = table.game() else {
-        return Err(CheckFault::EmptyTable);
-    };
+    let game = table.game().ok_or(CheckFault::EmptyTable)?;
     if !is_sound(game, pool) {
         return Err(CheckFault::UnsoundPool);
     }

@@ -6,6 +6,7 @@ use Rattle.layout.specs.Opening.{open_chains}
 use Rattle.layout.specs.Laying.{laid}
 use Rattle.layout.specs.Opened.{new_levels, unused, opened_game}
 use Rattle.layout.proofs.Begun.{chains_some, length_put}
+use Rattle.game.specs.Tables.{is_held, game_in}
 use Rattle.game.specs.Opens.{open_gives, pool_after, game_after, holds_after}
 use Rattle.formula.proofs.ProperFormula.{proper}
 use Rattle.game.proofs.OpeningFits.{too_short, long_enough, never_both, same_ok}
@@ -23,8 +24,8 @@ returns-then-pool-words_needed c =
     record {
       gives = sym (ap open_gives e);
       words = sym (ap (pool_after c.args.pool.now) e);
-      game = sym (ap (game_after c.args.table.now.game c.args.number c.args.pool.now) e);
-      holds = sym (ap (holds_after c.args.table.now.holds) e);
+      game = sym (ap (game_after (game_in c.args.table.now.game) c.args.number c.args.pool.now) e);
+      holds = sym (ap (holds_after (is_held c.args.table.now.game)) e);
       begins = λ q' is. absurd (never_both _ _ q' e is);
       sound = λ q' is. absurd (never_both _ _ q' e is);
     }
@@ -35,7 +36,7 @@ invariant_of-table c =
     let p = proper c.in_ok-formula.formula in
     let limits : Limits (opened_game q c.args.number c.args.pool.now) = (p.few_variables, p.few_clauses, p.few_levels, omega arith) in
     let filled : Filled (opened_game q c.args.number c.args.pool.now) = (chains_some (unused c.args.pool.now) (open_chains q) (omega arith), omega arith, length_put 0 (new_levels q.clauses q.variables (laid (unused c.args.pool.now) q.clauses) q.first q.levels) (replicate 32 blank)) in
-    record { limits = subst Limits (sym c.write_game.ensures.game) limits; filled = λ _. subst Filled (sym c.write_game.ensures.game) filled }
+    record { limits = subst Limits (sym c.write_game.ensures.game) limits; filled = subst Filled (sym c.write_game.ensures.game) filled }
 
 pub returns : goal.returns
 returns c =
@@ -45,8 +46,8 @@ returns c =
     record {
       gives = sym (ap open_gives e);
       words = c.write_game.ensures.words ∙ sym (ap (pool_after c.args.pool.now) e);
-      game = c.write_game.ensures.game ∙ sym (ap (game_after c.args.table.now.game c.args.number c.args.pool.now) e);
-      holds = sym (ap (holds_after c.args.table.now.holds) e);
+      game = c.write_game.ensures.game ∙ sym (ap (game_after (game_in c.args.table.now.game) c.args.number c.args.pool.now) e);
+      holds = sym (ap (holds_after (is_held c.args.table.now.game)) e);
       begins = λ q' is.
           subst (λ p. Begun p c.write_game.result c.write_game.new.pool) (same_ok _ q q' e is)
           (subst (λ g. Begun q g c.write_game.new.pool) (sym c.write_game.ensures.game)
