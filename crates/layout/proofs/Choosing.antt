@@ -27,33 +27,24 @@ pub choice_past : (p : ℕ → Bool) (n v : ℕ) (xs : List ℤ) → v ≤ n →
     → is_choice xs (keep p (from v (n + 1 - v))) ≡ is_choice xs (keep p (from (v + 1) (n + 1 - (v + 1))))
 choice_past p n v xs h e = ap (is_choice xs) (keep_past p v n h e)
 
--- the numbers from a place on, against the variables from v on
-module _ (p : ℕ → Bool) (n v : ℕ) (xs : List ℤ) (at : ℕ) (h : v ≤ n) (e : p v ≡ true) where
-  pub choice_more : at < length xs → eqb (nat_abs (get_or xs at (pos 0))) v ≡ true
-      → is_choice (drop at xs) (keep p (from v (n + 1 - v))) ≡ is_choice (drop (at + 1) xs) (keep p (from (v + 1) (n + 1 - (v + 1))))
-  choice_more in' is =
-      ap (is_choice (drop at xs)) (keep_here p v n h e)
-      ∙ ap (λ l. is_choice l (v ∷ keep p (from (v + 1) (n + 1 - (v + 1))))) (drop_more xs at (pos 0) in')
-      ∙ ap (λ b. b && is_choice (drop (at + 1) xs) (keep p (from (v + 1) (n + 1 - (v + 1))))) (literal_by (get_or xs at (pos 0)) v ∙ is)
+-- the numbers that are left, against the variables from v on
+module _ (p : ℕ → Bool) (n v : ℕ) (h : v ≤ n) (e : p v ≡ true) (xs : List ℤ) where
+  pub choice_more : (x : ℤ) (after : List ℤ) → xs ≡ x ∷ after → eqb (nat_abs x) v ≡ true
+      → is_choice xs (keep p (from v (n + 1 - v))) ≡ is_choice after (keep p (from (v + 1) (n + 1 - (v + 1))))
+  choice_more x after is t =
+      ap (is_choice xs) (keep_here p v n h e)
+      ∙ ap (λ l. is_choice l (v ∷ keep p (from (v + 1) (n + 1 - (v + 1))))) is
+      ∙ ap (λ b. b && is_choice after (keep p (from (v + 1) (n + 1 - (v + 1))))) (literal_by x v ∙ t)
 
-  pub choice_other : at < length xs → eqb (nat_abs (get_or xs at (pos 0))) v ≡ false → is_choice (drop at xs) (keep p (from v (n + 1 - v))) ≡ false
-  choice_other in' is =
-      ap (is_choice (drop at xs)) (keep_here p v n h e)
-      ∙ ap (λ l. is_choice l (v ∷ keep p (from (v + 1) (n + 1 - (v + 1))))) (drop_more xs at (pos 0) in')
-      ∙ ap (λ b. b && is_choice (drop (at + 1) xs) (keep p (from (v + 1) (n + 1 - (v + 1))))) (literal_by (get_or xs at (pos 0)) v ∙ is)
+  pub choice_other : (x : ℤ) (after : List ℤ) → xs ≡ x ∷ after → eqb (nat_abs x) v ≡ false → is_choice xs (keep p (from v (n + 1 - v))) ≡ false
+  choice_other x after is f =
+      ap (is_choice xs) (keep_here p v n h e)
+      ∙ ap (λ l. is_choice l (v ∷ keep p (from (v + 1) (n + 1 - (v + 1))))) is
+      ∙ ap (λ b. b && is_choice after (keep p (from (v + 1) (n + 1 - (v + 1))))) (literal_by x v ∙ f)
 
-  pub choice_short : length xs ≤ at → is_choice (drop at xs) (keep p (from v (n + 1 - v))) ≡ false
-  choice_short out =
-      ap (is_choice (drop at xs)) (keep_here p v n h e)
-      ∙ ap (λ l. is_choice l (v ∷ keep p (from (v + 1) (n + 1 - (v + 1))))) (drop_all at xs out)
+  pub choice_short : xs ≡ [] → is_choice xs (keep p (from v (n + 1 - v))) ≡ false
+  choice_short none = ap (is_choice xs) (keep_here p v n h e) ∙ ap (λ l. is_choice l (v ∷ keep p (from (v + 1) (n + 1 - (v + 1))))) none
 
 -- no variable is left
-pub choice_end : (p : ℕ → Bool) (n v : ℕ) (xs : List ℤ) (at : ℕ) → n + 1 ≤ v → at ≤ length xs
-    → is_choice (drop at xs) (keep p (from v (n + 1 - v))) ≡ eqb at (length xs)
-choice_end p n v xs at h in' =
-    let none : n + 1 - v ≡ 0 = omega arith in
-    ap (λ k. is_choice (drop at xs) (keep p (from v k))) none ∙ left (drop at xs) (length-drop at xs)
-  where
-    left : (ys : List ℤ) → length ys ≡ length xs - at → is_choice ys [] ≡ eqb at (length xs)
-    left [] e = sym (eq-eqb at (length xs) (omega arith))
-    left (y ∷ ys) e = sym (ne_eqb at (length xs) (λ z. omega arith))
+pub choice_end : (p : ℕ → Bool) (n v : ℕ) (xs : List ℤ) → n + 1 ≤ v → is_choice xs (keep p (from v (n + 1 - v))) ≡ is_choice xs []
+choice_end p n v xs h = let none : n + 1 - v ≡ 0 = omega arith in ap (λ k. is_choice xs (keep p (from v k))) none

@@ -1,5 +1,6 @@
 // The chains that a game begins with: the formula's clauses, and the clause chain of each level.
-ghost use Rattle.std.specs.Prelude.{◌≡◌, ◌+◌, ◌<◌, ◌≤◌, [], ◌∷◌, length, take, neg_ℤ, unsigned_abs};
+ghost use Rattle.std.specs.Prelude.{◌≡◌, ◌+◌, ◌<◌, ◌≤◌, [], ◌∷◌, length, neg_ℤ, unsigned_abs};
+ghost use Rattle.arrayvec.specs.ArrayVec.{array_vec_len};
 ghost use Rattle.formula.specs.Lists.{elem};
 ghost use Rattle.formula.specs.Model.{qbf, level_at};
 ghost use Rattle.strategy.specs.Records.{literals_on};
@@ -9,6 +10,7 @@ ghost use Rattle.layout.specs.Opening.{our_record, device_records, clause_record
 
 use crate::laying::lay;
 use crate::signals::{b_signal, t_signal};
+use arrayvec::ArrayVec;
 use formula::{Formula, Side};
 use pool::Place;
 
@@ -34,51 +36,42 @@ fn is_at(formula: &Formula, level: usize, literal: i32) -> bool
     formula.binds(level, literal.unsigned_abs() as usize)
 }
 
-// Puts the literals that a clause has at a level into the buffer, and says how many those are.
-pub(crate) fn literals_on(
-    formula: &Formula,
-    level: usize,
-    clause: usize,
-    buffer: &mut [i32; 4098],
-) -> usize
+// The literals that a clause has at a level.
+pub(crate) fn literals_on(formula: &Formula, level: usize, clause: usize) -> ArrayVec<i32, 4098>
     requires { clause < length (qbf formula.now.parts).clauses }
-    ensures literals { take result buffer.new ≡ literals_on (qbf formula.now.parts).clauses (level_at (qbf formula.now.parts) level) clause }
-    ensures few { result ≤ 4096 }
+    ensures literals { result.items ≡ literals_on (qbf formula.now.parts).clauses (level_at (qbf formula.now.parts) level) clause }
+    ensures few { array_vec_len result ≤ 4096 }
 {
     let Some(literals) = formula.clause(clause + 1) else {
         unreachable()
     };
-    let mut count = 0;
+    let mut found = ArrayVec::new();
     for l in literals {
-        if !is_at(formula, level, *l) {
-            continue;
+        if is_at(formula, level, *l) {
+            found.push(*l);
         }
-        buffer[count] = *l;
-        count += 1;
     }
-    count
+    found
 }
 
-// Puts the record of a clause at our level into the buffer, and says how long it is.
+// The record of a clause at our level.
 pub(crate) fn our_record(
     formula: &Formula,
     level: usize,
     last: bool,
     clause: usize,
-    buffer: &mut [i32; 4098],
-) -> usize
+) -> ArrayVec<i32, 4098>
     requires { clause < length (qbf formula.now.parts).clauses }
-    ensures numbers { take result buffer.new ≡ our_record (qbf formula.now.parts).clauses (qbf formula.now.parts).variables (level_at (qbf formula.now.parts) level) last clause }
-    ensures few { result ≤ 4098 }
+    ensures numbers { result.items ≡ our_record (qbf formula.now.parts).clauses (qbf formula.now.parts).variables (level_at (qbf formula.now.parts) level) last clause }
+    ensures few { array_vec_len result ≤ 4098 }
 {
-    let count = literals_on(formula, level, clause, buffer);
+    let mut record = literals_on(formula, level, clause);
     let variables = formula.variables();
-    buffer[count] = t_signal(variables, clause);
-    if last {
-        return count + 1;
+    record.push(t_signal(variables, clause));
+    if !last {
+        record.push(b_signal(variables, formula.clauses(), clause));
     }
-    buffer[count + 1] = b_signal(variables, formula.clauses(), clause);
-    count + 2
+    record
 }
 
 // The record that a literal of a clause makes at the device's level: it is false, or the clause is not left to the levels after.
@@ -100,17 +93,11 @@ fn write_device(
     requires { (clause < length (qbf formula.now.parts).clauses) × (Enough (length pool.old) (laid_as pool.old place) (device_records (qbf formula.now.parts).clauses (qbf formula.now.parts).variables (level_at (qbf formula.now.parts) level) clause)) }
     ensures { laid_as pool.new result ≡ laid (laid_as pool.old place) (device_records (qbf formula.now.parts).clauses (qbf formula.now.parts).variables (level_at (qbf formula.now.parts) level) clause) }
 {
-    let Some(literals) = formula.clause(clause + 1) else {
-        unreachable()
-    };
     let left = b_signal(formula.variables(), formula.clauses(), clause);
+    let literals = literals_on(formula, level, clause);
     let mut place = place;
-    for l in literals {
-        if !is_at(formula, level, *l) {
-            continue;
-        }
-        let record = device_record(*l, left);
-        place = lay(pool, place, &record);
+    for l in literals.as_slice() {
+        place = lay(pool, place, &device_record(*l, left));
     }
     place
 }
@@ -130,9 +117,8 @@ fn write_clause(
 {
     match side {
         Side::Ours => {
-            let mut buffer = [0; 4098];
-            let count = our_record(formula, level, last, clause, &mut buffer);
-            lay(pool, place, &buffer[0..count])
+            let record = our_record(formula, level, last, clause);
+            lay(pool, place, record.as_slice())
         }
         Side::Device => write_device(formula, level, clause, pool, place),
     }

@@ -37,15 +37,15 @@ pub fn is_choice(game: &Game, m: usize, numbers: &[i32]) -> bool
     requires { (Limits game.now) × (m < 32) }
     ensures { result ≡ is_choice numbers.now (variables_at game.now m) }
 {
-    let mut at = 0;
+    let mut rest = numbers;
     for v in 1..game.variables + 1 {
         if !game.levels[m].variables[v] {
             continue;
         }
-        if at == numbers.len() || !is_literal(numbers[at], v) {
-            return false;
+        match rest.split_first() {
+            Some((x, after)) if is_literal(*x, v) => rest = after,
+            _ => return false,
         }
-        at += 1;
     }
-    at == numbers.len()
+    rest.is_empty()
 }

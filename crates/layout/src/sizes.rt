@@ -14,10 +14,9 @@ fn clause_words(formula: &Formula, side: Side, level: usize, last: bool, clause:
     ensures words { result ≡ words_for (clause_records (qbf formula.now.parts).clauses (qbf formula.now.parts).variables side (level_at (qbf formula.now.parts) level) last clause) }
     ensures few { result ≤ 20000 }
 {
-    let mut buffer = [0; 4098];
     match side {
-        Side::Ours => head_words() + our_record(formula, level, last, clause, &mut buffer),
-        Side::Device => (head_words() + 2) * literals_on(formula, level, clause, &mut buffer),
+        Side::Ours => head_words() + our_record(formula, level, last, clause).len(),
+        Side::Device => (head_words() + 2) * literals_on(formula, level, clause).len(),
     }
 }
 

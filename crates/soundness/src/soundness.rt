@@ -32,8 +32,8 @@ fn is_bound(game: &Game, x: i32) -> bool
     if v == 0 || v > game.variables {
         return false;
     }
-    for m in 0..game.depth {
-        if game.levels[m].variables[v] {
+    for level in &game.levels[..game.depth] {
+        if level.variables[v] {
             return true;
         }
     }
@@ -45,12 +45,7 @@ fn are_bound(game: &Game, numbers: &[i32]) -> bool
     requires { Limits game.now }
     ensures { Decides result (All (λ l. Bound (levels_of game.now) (unsigned_abs l)) numbers.now) }
 {
-    for x in numbers {
-        if !is_bound(game, *x) {
-            return false;
-        }
-    }
-    true
+    numbers.iter().all(|x| is_bound(game, *x))
 }
 
 // Whether the formula's chain has as many clauses as the game, and few enough literals, all of bound variables.
