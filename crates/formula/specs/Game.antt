@@ -49,8 +49,7 @@ same (negsuc m) (pos n) = false
 same (negsuc m) (negsuc n) = m == n
 
 abbrev pub has : ℤ → List ℤ → Bool
-has l [] = false
-has l (x ∷ xs) = same l x || has l xs
+has l xs = any (same l) xs
 
 -- Clause i, counted from 0, has a literal among the values x; among the values of some level of the play π.
 abbrev pub hits : Clauses → Values → ℕ → Bool

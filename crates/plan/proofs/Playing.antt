@@ -11,21 +11,6 @@ use Rattle.formula.proofs.Maps.{length-each}
 use Rattle.formula.proofs.Looked.{each-from_at}
 use Rattle.strategy.specs.RecordedPlan.{flat, is_flat_play}
 
--- one element after another
-module _ (l : ℤ) (xs : List ℤ) (i : ℕ) (here : i < length xs) where
-  pub has_more : same l (get_or xs i (pos 0)) ≡ false → has l (drop i xs) ≡ has l (drop (i + 1) xs)
-  has_more e = ap (has l) (drop_more xs i (pos 0) here) ∙ ap (λ b. b || has l (drop (i + 1) xs)) e
-
-  pub has_here : same l (get_or xs i (pos 0)) ≡ true → has l (drop i xs) ≡ true
-  has_here e = ap (has l) (drop_more xs i (pos 0) here) ∙ ap (λ b. b || has l (drop (i + 1) xs)) e
-
-module _ (p : ℤ → Bool) (xs : List ℤ) (i : ℕ) (here : i < length xs) where
-  pub any_more : p (get_or xs i (pos 0)) ≡ false → any p (drop i xs) ≡ any p (drop (i + 1) xs)
-  any_more e = ap (any p) (drop_more xs i (pos 0) here) ∙ ap (λ b. b || any p (drop (i + 1) xs)) e
-
-  pub any_here : p (get_or xs i (pos 0)) ≡ true → any p (drop i xs) ≡ true
-  any_here e = ap (any p) (drop_more xs i (pos 0) here) ∙ ap (λ b. b || any p (drop (i + 1) xs)) e
-
 -- values of a level, then those of the levels after
 choice_both : (a b : List ℤ) (vs ws : List ℕ) → length a ≡ length vs → is_choice (a ++ b) (vs ++ ws) ≡ (is_choice a vs && is_choice b ws)
 choice_both [] b [] ws e = refl

@@ -26,38 +26,14 @@ pub fn is_play(game: &Game, levels: usize, play: &[i32]) -> bool
         }
         rest = after;
     }
-    rest.len() == 0
-}
-
-// Whether two literals are the same.
-fn is_same(l: i32, x: i32) -> bool
-    ensures { result ≡ same l x }
-{
-    l == x
-}
-
-// Whether a literal is among those of a play.
-fn is_among(literal: i32, play: &[i32]) -> bool
-    ensures { result ≡ has literal play.now }
-{
-    for x in play {
-        if is_same(literal, *x) {
-            return true;
-        }
-    }
-    false
+    rest.is_empty()
 }
 
 // Whether a clause has a literal in a play.
 fn is_hit(clause: &[i32], play: &[i32]) -> bool
     ensures { result ≡ any (λ l. has l play.now) clause.now }
 {
-    for l in clause {
-        if is_among(*l, play) {
-            return true;
-        }
-    }
-    false
+    clause.iter().any(|l| play.contains(l))
 }
 
 // Which clauses of the formula a play satisfies. The chain begins with the last clause.
@@ -67,6 +43,7 @@ pub fn satisfied(game: &Game, pool: &[i32], play: &[i32]) -> [bool; 512]
 {
     let mut hit = [false; 512];
     let mut rest = chain(game, pool, game.formula);
+    // counted down by hand: the chain has the last clause first, and a chain does not know its length
     let mut i = game.clauses;
     while let Some(clause) = rest.next() {
         i -= 1;

@@ -28,4 +28,4 @@ loop-m-preserved c =
 pub returns : goal.returns
 returns c =
     let g = c.args.game.now in
-    sym (c.loop-m.invariant ∙ play_end (variables_at g) g.depth c.args.levels c.loop-m.m c.requires.1 (omega arith) c.loop-m.rest.now)
+    c.is_empty.ensures ∙ sym (c.loop-m.invariant ∙ play_end (variables_at g) g.depth c.args.levels c.loop-m.m c.requires.1 (omega arith) c.loop-m.rest.now)
