@@ -24,20 +24,13 @@ fn ask<E: Engine>(engine: &mut E, game: &Game, pool: &[i32], out: &mut [i32; 128
     ensures { Replied game.now pool.now result out.new }
 {
     let level = game.levels[game.present];
-    let mut assumed = [0; 512];
-    let count = assumptions_of(
-        game.variables,
-        game.clauses,
-        level.side,
-        &level.satisfied,
-        &mut assumed,
-    );
+    let assumed = assumptions_of(game.variables, game.clauses, level.side, &level.satisfied);
     let question = Question {
         signals: count_signals(game),
         pool,
         used: game.used,
         head: level.chain,
-        assumptions: &assumed[0..count],
+        assumptions: assumed.as_slice(),
     };
     match engine.ask(question, out) {
         Ok(answer) => answer,

@@ -4,7 +4,6 @@ pub mod Counted
 pub mod Flags
 pub mod Formulas
 pub mod Grown
-pub mod Keeping
 pub mod Named
 pub mod ProperRows
 pub mod Records

@@ -5,6 +5,7 @@ pub mod Lengths
 pub mod Marked
 pub mod Noted
 pub mod Passing
+pub mod Picked
 pub mod Rearranged
 pub mod SetsOf
 pub mod Stepped

@@ -40,9 +40,8 @@ fn finish(game: &mut Game, pool: &mut [i32], words: &[i32])
     let m = game.present;
     let mut chosen = game.levels[m];
     chosen.values = read_level_values(game.variables, &chosen.variables, words);
-    let mut set = [0; 512];
-    let count = last_set(game, &chosen, pool, &mut set);
-    note(game, pool, Side::Ours, m, &set[0..count], &chosen);
+    let set = last_set(game, &chosen, pool);
+    note(game, pool, Side::Ours, m, set.as_slice(), &chosen);
 }
 
 // No at a level after the first: the clauses that it names are entered at the level before, with the values kept there.
@@ -53,9 +52,8 @@ fn give_back(game: &mut Game, pool: &mut [i32], names: &[i32])
     let m = game.present;
     let side = game.levels[m].side;
     let chosen = game.levels[m - 1];
-    let mut set = [0; 512];
-    let count = named_set(game, side, &chosen, pool, names, &mut set);
-    note(game, pool, side.other(), m - 1, &set[0..count], &chosen);
+    let set = named_set(game, side, &chosen, pool, names);
+    note(game, pool, side.other(), m - 1, set.as_slice(), &chosen);
 }
 
 // What an answer changes depends on the present level, its side and the answer.

@@ -18,14 +18,7 @@ pub(crate) fn is_true(variables: usize, level: &Level, literal: i32) -> bool
     if v < 1 || v > variables {
         return false;
     }
-    if !level.variables[v] {
-        return false;
-    }
-    if literal > 0 {
-        level.values[v]
-    } else {
-        !level.values[v]
-    }
+    level.variables[v] && level.values[v] == (literal > 0)
 }
 
 // Whether one of these literals is.
@@ -33,12 +26,7 @@ pub(crate) fn is_hit(variables: usize, level: &Level, clause: &[i32]) -> bool
     requires { variables ≤ 256 }
     ensures { result ≡ any (λ l. has l (values_in variables level.now)) clause.now }
 {
-    for l in clause {
-        if is_true(variables, level, *l) {
-            return true;
-        }
-    }
-    false
+    clause.iter().any(|l| is_true(variables, level, *l))
 }
 
 // Marks the clauses that are hit by the level's values, by their places; the formula's last clause heads its chain.
@@ -47,6 +35,7 @@ pub(crate) fn mark_hits(game: &Game, level: &Level, pool: &[i32], marks: &mut [b
     ensures { (i : ℕ) → slice_index_or marks.new i false ≡ (hits (clauses_of game.now pool.now) (values_in game.now.variables level.now) i || slice_index_or marks.old i false) }
 {
     let mut chain = Chain::new(count_signals(game), pool, game.used, game.formula);
+    // counted down by hand: the chain has the last clause first, and a chain does not know its length
     let mut left = game.clauses;
     while let Some(clause) = chain.next() {
         left -= 1;

@@ -1,9 +1,11 @@
 // The question of a step about the present level: what it assumes of the clauses.
-ghost use Rattle.std.specs.Prelude.{◌≡◌, ℕ, ◌<◌, ◌≤◌, Bool, false, take, pos, neg_ℤ, slice_index_or};
+ghost use Rattle.std.specs.Prelude.{◌≡◌, ℕ, ◌<◌, ◌≤◌, Bool, false, pos, neg_ℤ, slice_index_or};
+ghost use Rattle.arrayvec.specs.ArrayVec.{array_vec_len};
 ghost use Rattle.strategy.specs.Signals.{signal};
 ghost use Rattle.strategy.specs.Records.{assumptions};
 ghost use Rattle.strategy.specs.Questions.{assumed, assumed_clauses};
 
+use arrayvec::ArrayVec;
 use formula::Side;
 use layout::{b_signal, t_signal};
 
@@ -28,25 +30,23 @@ fn assumption(variables: usize, clauses: usize, side: Side, clause: usize) -> i3
     }
 }
 
-// Puts the assumptions into the buffer, clauses ascending, and says how many they are.
+// The assumptions, clauses ascending.
 pub fn assumptions_of(
     variables: usize,
     clauses: usize,
     side: Side,
     satisfied: &[bool; 512],
-    buffer: &mut [i32; 512],
-) -> usize
+) -> ArrayVec<i32, 512>
     requires { (variables ≤ 256) × (clauses ≤ 512) }
-    ensures list { take result buffer.new ≡ assumptions variables clauses side (assumed_clauses clauses side (λ i. slice_index_or satisfied.now i false)) }
-    ensures few { result ≤ clauses }
+    ensures list { result.items ≡ assumptions variables clauses side (assumed_clauses clauses side (λ i. slice_index_or satisfied.now i false)) }
+    ensures few { array_vec_len result ≤ clauses }
 {
-    let mut count = 0;
+    let mut assumed = ArrayVec::new();
     for clause in 0..clauses {
         if !is_assumed(side, satisfied[clause]) {
             continue;
         }
-        buffer[count] = assumption(variables, clauses, side, clause);
-        count += 1;
+        assumed.push(assumption(variables, clauses, side, clause));
     }
-    count
+    assumed
 }

@@ -1,5 +1,6 @@
 // The set of clauses of a new entry.
-ghost use Rattle.std.specs.Prelude.{◌≡◌, ◌+◌, ◌≤◌, true, false, length, take, slice_index_or};
+ghost use Rattle.std.specs.Prelude.{◌≡◌, ◌+◌, ◌≤◌, true, false, length, slice_index_or};
+ghost use Rattle.arrayvec.specs.ArrayVec.{array_vec_len};
 ghost use Rattle.strategy.specs.Steps.{last_entry_set, entry_set};
 ghost use Rattle.strategy.specs.Questions.{clauses_named};
 ghost use Rattle.rules.specs.Naming.{base_of, wanted, Names};
@@ -8,29 +9,26 @@ ghost use Rattle.layout.specs.Viewed.{values_in, clauses_of};
 ghost use Rattle.soundness.specs.Soundness.{SoundFormula};
 
 use crate::hits::mark_hits;
+use arrayvec::ArrayVec;
 use formula::Side;
 use layout::{Game, Level, magnitude};
 
 // After a yes at the last level: the clauses satisfied before it, and not by the values chosen there.
-pub(crate) fn last_set(game: &Game, chosen: &Level, pool: &[i32], set: &mut [usize; 512]) -> usize
+pub(crate) fn last_set(game: &Game, chosen: &Level, pool: &[i32]) -> ArrayVec<usize, 512>
     requires { (Limits game.now) × (SoundFormula game.now pool.now) }
-    ensures clauses { take result set.new ≡ last_entry_set (clauses_of game.now pool.now) (λ i. slice_index_or chosen.now.satisfied i false) (values_in game.now.variables chosen.now) }
-    ensures few { result ≤ 512 }
+    ensures clauses { result.items ≡ last_entry_set (clauses_of game.now pool.now) (λ i. slice_index_or chosen.now.satisfied i false) (values_in game.now.variables chosen.now) }
+    ensures few { array_vec_len result ≤ 512 }
 {
     let mut marks = [false; 512];
     mark_hits(game, chosen, pool, &mut marks);
-    let mut count = 0;
+    let mut set = ArrayVec::new();
     for i in 0..game.clauses {
-        if !chosen.satisfied[i] {
+        if !chosen.satisfied[i] || marks[i] {
             continue;
         }
-        if marks[i] {
-            continue;
-        }
-        set[count] = i;
-        count += 1;
+        set.push(i);
     }
-    count
+    set
 }
 
 // The number behind which the assumed signals of a level of the side come.
@@ -62,23 +60,21 @@ pub(crate) fn named_set(
     chosen: &Level,
     pool: &[i32],
     names: &[i32],
-    set: &mut [usize; 512],
-) -> usize
+) -> ArrayVec<usize, 512>
     requires { (Limits game.now) × ((SoundFormula game.now pool.now) × ((length names.now ≤ 512) × (Names game.now.variables game.now.clauses side names.now))) }
-    ensures clauses { take result set.new ≡ entry_set (clauses_of game.now pool.now) side (clauses_named game.now.variables game.now.clauses side names.now) (values_in game.now.variables chosen.now) }
-    ensures few { result ≤ length names.now }
+    ensures clauses { result.items ≡ entry_set (clauses_of game.now pool.now) side (clauses_named game.now.variables game.now.clauses side names.now) (values_in game.now.variables chosen.now) }
+    ensures few { array_vec_len result ≤ length names.now }
 {
     let mut marks = [false; 512];
     mark_hits(game, chosen, pool, &mut marks);
     let base = base_of(game.variables, game.clauses, side);
-    let mut count = 0;
-    for j in 0..names.len() {
-        let clause = magnitude(names[j]) - base - 1;
+    let mut set = ArrayVec::new();
+    for name in names {
+        let clause = magnitude(*name) - base - 1;
         if !is_wanted(side, marks[clause]) {
             continue;
         }
-        set[count] = clause;
-        count += 1;
+        set.push(clause);
     }
-    count
+    set
 }

@@ -1,9 +1,11 @@
 // The values of a level's variables: as an engine gives them, and as an entry lists them.
-ghost use Rattle.std.specs.Prelude.{◌≡◌, ℕ, ◌+◌, ◌-◌, ◌≤◌, false, ◌++◌, length, take, pos, int_lt, slice_index_or};
+ghost use Rattle.std.specs.Prelude.{◌≡◌, ◌+◌, ◌≤◌, ◌++◌, length, pos, int_lt};
+ghost use Rattle.arrayvec.specs.ArrayVec.{array_vec_len};
 ghost use Rattle.layout.specs.Viewed.{values_in};
 ghost use Rattle.rules.specs.Values.{literal_of};
 ghost use Rattle.rules.specs.Changes.{flags_for, values_said};
 
+use arrayvec::ArrayVec;
 use layout::Level;
 
 // The literal of a variable that has this value.
@@ -15,26 +17,18 @@ fn literal_of(variable: usize, value: bool) -> i32
     if value { literal } else { -literal }
 }
 
-// Puts the values that a level keeps behind the first numbers of the buffer, and says how many numbers there are then.
-pub(crate) fn put_values(
-    variables: usize,
-    level: &Level,
-    buffer: &mut [i32; 768],
-    start: usize,
-) -> usize
-    requires { (variables ≤ 256) × (start ≤ 512) }
-    ensures numbers { take result buffer.new ≡ take start buffer.old ++ values_in variables level.now }
-    ensures few { result ≤ start + variables }
+// Puts the values that a level keeps behind the numbers of a record.
+pub(crate) fn put_values(variables: usize, level: &Level, record: &mut ArrayVec<i32, 768>)
+    requires { (variables ≤ 256) × (array_vec_len record.old ≤ 512) }
+    ensures numbers { record.new.items ≡ record.old.items ++ values_in variables level.now }
+    ensures few { array_vec_len record.new ≤ array_vec_len record.old + variables }
 {
-    let mut count = start;
     for v in 1..variables + 1 {
         if !level.variables[v] {
             continue;
         }
-        buffer[count] = literal_of(v, level.values[v]);
-        count += 1;
+        record.push(literal_of(v, level.values[v]));
     }
-    count
 }
 
 // Whether a signed value says true.
@@ -42,18 +36,6 @@ fn is_positive(value: i32) -> bool
     ensures { result ≡ int_lt (pos 0) value }
 {
     value > 0
-}
-
-// The values that an engine's words give the variables 1 to n, by their numbers.
-pub(crate) fn read_values(variables: usize, words: &[i32]) -> [bool; 257]
-    requires { (variables ≤ 256) × (variables ≤ length words.now) }
-    ensures { (v : ℕ) → 1 ≤ v → v ≤ variables → slice_index_or result v false ≡ int_lt (pos 0) (slice_index_or words.now (v - 1) (pos 0)) }
-{
-    let mut values = [false; 257];
-    for v in 1..variables + 1 {
-        values[v] = is_positive(words[v - 1]);
-    }
-    values
 }
 
 // The values that an engine's words give the flagged variables of 1 to n, by their numbers.

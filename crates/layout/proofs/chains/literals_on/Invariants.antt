@@ -1,4 +1,4 @@
-use Rattle.std.proofs.Common.{◌≡◌, ◌≤◌, ◌++◌, length, take, nat_abs}
+use Rattle.std.proofs.Common.{◌≡◌, ◌≤◌, length, take, nat_abs}
 use Rattle.formula.specs.Lists.{keep, elem}
 use Rattle.formula.specs.Model.{qbf, level_at}
 use Rattle.layout.proofs.chains.literals_on.Given as goal

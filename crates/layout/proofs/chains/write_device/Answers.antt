@@ -1,14 +1,12 @@
-use Rattle.std.proofs.Common.{◌≡◌, ℕ, zero, suc, ◌+◌, ◌<◌, ◌≤◌, Bool, true, List, [], ◌∷◌, length, get_or, ℤ, pos, neg_ℤ, nat_abs, sym, ap, ◌∙◌, subst, arith, w32, SFits, to_z, of_z, rules}
+use Rattle.std.proofs.Common.{◌≡◌, ℕ, zero, suc, ◌<◌, ◌≤◌, Bool, true, List, [], ◌∷◌, length, get_or, ℤ, pos, neg_ℤ, nat_abs, sym, ap, ◌∙◌, subst, arith, w32, SFits, to_z, of_z, rules}
 use Rattle.std.proofs.lemmas.Bool.{cond_both}
-use Rattle.std.proofs.lemmas.List.{at_drop_all, get_or-map, length-map}
+use Rattle.std.proofs.lemmas.List.{get_or-map, length-map}
 use Rattle.std.proofs.lemmas.Int.{to_z-of_z}
 use Rattle.strategy.specs.Signals.{b_signal}
 use Rattle.strategy.specs.Records.{literals_on}
 use Rattle.formula.specs.declared.formula.Formula.{Formula}
 use Rattle.formula.specs.Lists.{elem, keep, each}
 use Rattle.formula.specs.Model.{qbf, level_at}
-use Rattle.pool.specs.Append.{Room}
-use Rattle.layout.specs.Laying.{lay, laid, Enough}
 use Rattle.layout.specs.Places.{laid_as}
 use Rattle.layout.specs.Opening.{device_record}
 use Rattle.formula.proofs.ProperFormula.{proper}

@@ -1,5 +1,4 @@
-use Rattle.std.proofs.Common.{◌≡◌, ℕ, ◌-◌, ◌≤◌, Bool, false, length, get_or, take, pos, sym, ap, ◌∙◌, subst}
-use native.Mathlib.Nat.{sub-zero}
+use Rattle.std.proofs.Common.{◌≡◌, ℕ, ◌-◌, ◌≤◌, Bool, false, length, get_or, pos, sym, ap, ◌∙◌, subst}
 use lib.Signed.{lt_z}
 use Rattle.formula.specs.Game.{Values}
 use Rattle.formula.specs.declared.side.Side.TheVariants.{Ours}
@@ -22,8 +21,7 @@ note-requires c =
     let C = clauses_of g c.args.pool.now in
     let before : ℕ → Bool = λ i. get_or l.satisfied i false in
     let x = values_in g.variables (values_to c.read_level_values-chosen.result l) in
-    let is : take (c.last_set-count.result - 0) c.last_set-count.new.set ≡ last_entry_set C before x =
-    ap (λ m. take m c.last_set-count.new.set) (sub-zero c.last_set-count.result) ∙ c.last_set-count.ensures.clauses in
+    let is : c.as_slice.result.now ≡ last_entry_set C before x = c.as_slice.ensures.value ∙ c.last_set-set.ensures.clauses in
     let few : length x ≤ bound_by g =
     subst (λ m. m ≤ bound_by g) (sym (length-each _ (variables_in g.variables l))) (level_few g g.present c.requires.1.0) in
     (c.requires.0, (c.requires.1.0, (subst (SetOf g) (sym is) (last_set_of g C before x (length_clauses g c.args.pool.now c.requires.0.sound.formula)), few)))
@@ -38,8 +36,7 @@ returns c =
     let α : ℕ → Bool = λ v. lt_z (pos 0) (get_or c.args.words.now (v - 1) (pos 0)) in
     let y = values_in g.variables (values_to c.read_level_values-chosen.result l) in
     let played : y ≡ values_of α (variables_in g.variables l) = ap (λ f. values_in g.variables (values_to f l)) c.read_level_values-chosen.ensures ∙ values_kept α g.variables l c.requires.0.limits.0 in
-    let is : take (c.last_set-count.result - 0) c.last_set-count.new.set ≡ last_entry_set C before y =
-    ap (λ m. take m c.last_set-count.new.set) (sub-zero c.last_set-count.result) ∙ c.last_set-count.ensures.clauses in
+    let is : c.as_slice.result.now ≡ last_entry_set C before y = c.as_slice.ensures.value ∙ c.last_set-set.ensures.clauses in
     c.note.ensures
     ∙ ap (λ A. noted g pool Ours g.present A y) is
     ∙ ap {B = Held} (λ (z : Values). noted g pool Ours g.present (last_entry_set C before z) z) played

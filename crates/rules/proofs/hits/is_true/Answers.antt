@@ -1,4 +1,5 @@
-use Rattle.std.proofs.Common.{◌≡◌, ℕ, ◌+◌, ◌<◌, ◌≤◌, true, false, ◌&&◌, ◌⊎◌, get_or, ℤ, pos, nat_abs, sym, ap, ◌∙◌, inl, inr, ⊎_elim, arith, w32}
+use Rattle.std.proofs.Common.{◌≡◌, ℕ, ◌+◌, ◌<◌, ◌≤◌, Bool, true, false, not, ◌&&◌, ◌⊎◌, get_or, ℤ, pos, nat_abs, sym, ap, ◌∙◌, inl, inr, ⊎_elim, refl, arith, w32}
+use mathlib.Core.Bool.{beq}
 use lib.Signed.{lt_z}
 use Rattle.std.proofs.lemmas.Int.{to_z-of_z}
 use Rattle.formula.specs.Game.{has}
@@ -20,27 +21,34 @@ returns-then-v-lt1 c =
     let out : (nat_abs c.args.literal < 1) ⊎ (1 + c.args.variables ≤ nat_abs c.args.literal) = ⊎_elim (λ a. inl (omega arith)) (λ a. inr (omega (arith, a.1))) c.then-v-lt1.either in
     sym (has_outside (λ u. get_or l.values u false) (λ u. get_or l.variables u false) c.args.literal 1 c.args.variables (omega arith) out)
 
-pub returns-then-not-level-v : goal.returns-then-not-level-v
-returns-then-not-level-v c =
-    let l = c.args.level.now in
-    let x = c.args.literal in
-    let is : c.magnitude-v.result ≡ nat_abs x = c.magnitude-v.ensures ∙ ap nat_abs (to_z-of_z w32 x c.ranges.literal) in
-    sym (among c.args.variables l x c.magnitude-v.result is c.if-v-lt1.false c.if-v-variables.false ∙ ap (λ b. b && agrees x (get_or l.values c.magnitude-v.result false)) c.if-not-level-v.true)
+-- a literal that is no 0 agrees with a value as its sign does
+agrees_by : (x : ℤ) (b up : Bool) → 1 ≤ nat_abs x → lt_z (pos 0) x ≡ up → beq b up ≡ agrees x b
+agrees_by x b true low e = same_true b ∙ sym (agrees_up x b e)
+  where
+    same_true : (b : Bool) → beq b true ≡ b
+    same_true true = refl
+    same_true false = refl
+agrees_by x b false low e = same_false b ∙ sym (agrees_down x b low e)
+  where
+    same_false : (b : Bool) → beq b false ≡ not b
+    same_false true = refl
+    same_false false = refl
 
-pub returns-then-literal-gt0 : goal.returns-then-literal-gt0
-returns-then-literal-gt0 c =
+pub returns-then-level-v : goal.returns-then-level-v
+returns-then-level-v c =
     let l = c.args.level.now in
     let x = c.args.literal in
+    let v = c.magnitude-v.result in
+    let b = get_or l.values c.magnitude-v.result false in
     let is : c.magnitude-v.result ≡ nat_abs x = c.magnitude-v.ensures ∙ ap nat_abs (to_z-of_z w32 x c.ranges.literal) in
-    let up : lt_z (pos 0) x ≡ true = ap (lt_z (pos 0)) (sym (to_z-of_z w32 x c.ranges.literal)) ∙ c.if-literal-gt0.true in
-    sym (among c.args.variables l x c.magnitude-v.result is c.if-v-lt1.false c.if-v-variables.false ∙ ap (λ b. b && agrees x (get_or l.values c.magnitude-v.result false)) c.if-not-level-v.false
-    ∙ agrees_up x (get_or l.values c.magnitude-v.result false) up)
+    ap (λ (z : ℤ). beq b (lt_z (pos 0) z)) (to_z-of_z w32 x c.ranges.literal) ∙ agrees_by x b _ (omega (arith, c.if-v-lt1.false)) refl
+    ∙ sym (among c.args.variables l x v is c.if-v-lt1.false c.if-v-variables.false ∙ ap (λ t. t && agrees x b) c.if-level-v.true)
 
-pub returns-else-literal-gt0 : goal.returns-else-literal-gt0
-returns-else-literal-gt0 c =
+pub returns-else-level-v : goal.returns-else-level-v
+returns-else-level-v c =
     let l = c.args.level.now in
     let x = c.args.literal in
+    let v = c.magnitude-v.result in
     let is : c.magnitude-v.result ≡ nat_abs x = c.magnitude-v.ensures ∙ ap nat_abs (to_z-of_z w32 x c.ranges.literal) in
-    let down : lt_z (pos 0) x ≡ false = ap (lt_z (pos 0)) (sym (to_z-of_z w32 x c.ranges.literal)) ∙ c.if-literal-gt0.false in
-    sym (among c.args.variables l x c.magnitude-v.result is c.if-v-lt1.false c.if-v-variables.false ∙ ap (λ b. b && agrees x (get_or l.values c.magnitude-v.result false)) c.if-not-level-v.false
-    ∙ agrees_down x (get_or l.values c.magnitude-v.result false) (omega (arith, c.if-v-lt1.false)) down)
+    c.if-level-v.false
+    ∙ sym (among c.args.variables l x v is c.if-v-lt1.false c.if-v-variables.false ∙ ap (λ t. t && agrees x (get_or l.values v false)) c.if-level-v.false)

@@ -1,20 +1,17 @@
-use Rattle.std.proofs.Common.{◌≡◌, ℕ, ◌+◌, ◌-◌, ◌<◌, Bool, false, ◌++◌, length, get_or, take, sym, ap, ◌∙◌, arith, w32, SFits, rules}
-use Rattle.std.proofs.lemmas.List.{length-set}
+use Rattle.std.proofs.Common.{ℕ, ◌+◌, ◌-◌, Bool, false, [], ◌∷◌, ◌++◌, get_or, sym, ap, ◌∙◌, append_assoc, arith, w32, SFits, rules}
 use Rattle.std.proofs.lemmas.Int.{to_z-of_z}
 use Rattle.formula.specs.Lists.{keep, from}
 use Rattle.formula.proofs.Ranges.{keep_here, keep_past}
 use Rattle.strategy.specs.Records.{values_of}
 use Rattle.rules.specs.Values.{literal_of}
-use Rattle.layout.proofs.Keeping.{pushed, none_left}
 use Rattle.rules.proofs.values.put_values.Goals as goal
 
 pub loop-v-preserved-then-not-level-v : goal.loop-v-preserved-then-not-level-v
 loop-v-preserved-then-not-level-v c =
     let α : ℕ → Bool = λ u. get_or c.args.level.now.values u false in
     let p : ℕ → Bool = λ u. get_or c.args.level.now.variables u false in (
-      ap (λ l. take c.loop-v.count c.loop-v.buffer ++ values_of α l) (sym (keep_past p c.loop-v.v c.args.variables (omega arith) c.if-not-level-v.true)) ∙ c.loop-v.invariant.0,
+      ap (λ l. c.loop-v.record.items ++ values_of α l) (sym (keep_past p c.loop-v.v c.args.variables (omega arith) c.if-not-level-v.true)) ∙ c.loop-v.invariant.0,
       omega (arith, c.loop-v.invariant.1),
-      c.loop-v.invariant.2,
     )
 
 pub loop-v-preserved : goal.loop-v-preserved
@@ -23,19 +20,9 @@ loop-v-preserved c =
     let p : ℕ → Bool = λ u. get_or c.args.level.now.variables u false in
     let v = c.loop-v.v in
     let fits : SFits w32 c.literal_of.result = search rules in
-    let room : c.loop-v.count < length c.loop-v.buffer = omega (arith, c.loop-v.invariant.1, c.loop-v.invariant.2, c.requires.0, c.requires.1) in (
-      pushed c.loop-v.buffer c.loop-v.count _ (literal_of v (α v)) _ _ _ room (to_z-of_z w32 c.literal_of.result fits ∙ c.literal_of.ensures)
-          (ap (values_of α) (keep_here p v c.args.variables (omega arith) c.if-not-level-v.false)) c.loop-v.invariant.0,
-      omega (arith, c.loop-v.invariant.1),
-      length-set c.loop-v.buffer c.loop-v.count _ ∙ c.loop-v.invariant.2,
+    let rest = values_of α (keep p (from (v + 1) (c.args.variables + 1 - (v + 1)))) in (
+      ap (λ l. l ++ rest) (c.push.ensures.items ∙ ap (λ x. c.loop-v.record.items ++ x ∷ []) (to_z-of_z w32 c.literal_of.result fits ∙ c.literal_of.ensures))
+          ∙ append_assoc c.loop-v.record.items (literal_of v (α v) ∷ []) rest
+          ∙ ap (λ l. c.loop-v.record.items ++ values_of α l) (sym (keep_here p v c.args.variables (omega arith) c.if-not-level-v.false)) ∙ c.loop-v.invariant.0,
+      omega (arith, c.loop-v.invariant.1, c.push.ensures.len),
     )
-
-pub returns : goal.returns
-returns c =
-    let α : ℕ → Bool = λ u. get_or c.args.level.now.values u false in
-    let p : ℕ → Bool = λ u. get_or c.args.level.now.variables u false in
-    let none : c.args.variables + 1 - c.loop-v.v ≡ 0 = omega arith in
-    record {
-      numbers = none_left _ _ _ (ap (λ m. values_of α (keep p (from c.loop-v.v m))) none) c.loop-v.invariant.0;
-      few = omega (arith, c.loop-v.invariant.1);
-    }

@@ -1,4 +1,4 @@
-use Rattle.std.proofs.Common.{◌≡◌, ◌+◌, ◌-◌, ◌≤◌, false, ◌++◌, length, get_or, take}
+use Rattle.std.proofs.Common.{◌≡◌, ◌+◌, ◌-◌, ◌≤◌, false, ◌++◌, length, get_or}
 use Rattle.formula.specs.Lists.{keep, from}
 use Rattle.strategy.specs.Records.{values_of}
 use Rattle.layout.specs.Viewed.{values_in}
@@ -6,6 +6,6 @@ use Rattle.rules.proofs.values.put_values.Given as goal
 
 abbrev pub invariant-loop-v : goal.invariant-loop-v
 invariant-loop-v l =
-    (take l.count l.buffer ++ values_of (λ u. get_or l.level.values u false) (keep (λ u. get_or l.level.variables u false) (from l.v (l.variables + 1 - l.v)))
-    ≡ take l.start l.initial.buffer ++ values_in l.variables l.level)
-    × (l.count + 1 ≤ l.start + l.v) × (length l.buffer ≡ 768)
+    (l.record.items ++ values_of (λ u. get_or l.level.values u false) (keep (λ u. get_or l.level.variables u false) (from l.v (l.variables + 1 - l.v)))
+    ≡ l.initial.record.items ++ values_in l.variables l.level)
+    × (length l.record.items + 1 ≤ length l.initial.record.items + l.v)
