@@ -18,16 +18,16 @@ fn literal_of(variable: usize, value: bool) -> i32
 }
 
 // Puts the values that a level keeps behind the numbers of a record.
-pub(crate) fn put_values(variables: usize, level: &Level, record: &mut ArrayVec<i32, 768>)
-    requires { (variables ≤ 256) × (array_vec_len record.old ≤ 512) }
-    ensures numbers { record.new.items ≡ record.old.items ++ values_in variables level.now }
-    ensures few { array_vec_len record.new ≤ array_vec_len record.old + variables }
+pub(crate) fn put_values(variables: usize, level: &Level, numbers: &mut ArrayVec<i32, 768>)
+    requires { (variables ≤ 256) × (array_vec_len numbers.old ≤ 512) }
+    ensures numbers { numbers.new.items ≡ numbers.old.items ++ values_in variables level.now }
+    ensures few { array_vec_len numbers.new ≤ array_vec_len numbers.old + variables }
 {
     for v in 1..variables + 1 {
         if !level.variables[v] {
             continue;
         }
-        record.push(literal_of(v, level.values[v]));
+        numbers.push(literal_of(v, level.values[v]));
     }
 }
 

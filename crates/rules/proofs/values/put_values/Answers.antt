@@ -10,7 +10,7 @@ pub loop-v-preserved-then-not-level-v : goal.loop-v-preserved-then-not-level-v
 loop-v-preserved-then-not-level-v c =
     let α : ℕ → Bool = λ u. get_or c.args.level.now.values u false in
     let p : ℕ → Bool = λ u. get_or c.args.level.now.variables u false in (
-      ap (λ l. c.loop-v.record.items ++ values_of α l) (sym (keep_past p c.loop-v.v c.args.variables (omega arith) c.if-not-level-v.true)) ∙ c.loop-v.invariant.0,
+      ap (λ l. c.loop-v.numbers.items ++ values_of α l) (sym (keep_past p c.loop-v.v c.args.variables (omega arith) c.if-not-level-v.true)) ∙ c.loop-v.invariant.0,
       omega (arith, c.loop-v.invariant.1),
     )
 
@@ -21,8 +21,8 @@ loop-v-preserved c =
     let v = c.loop-v.v in
     let fits : SFits w32 c.literal_of.result = search rules in
     let rest = values_of α (keep p (from (v + 1) (c.args.variables + 1 - (v + 1)))) in (
-      ap (λ l. l ++ rest) (c.push.ensures.items ∙ ap (λ x. c.loop-v.record.items ++ x ∷ []) (to_z-of_z w32 c.literal_of.result fits ∙ c.literal_of.ensures))
-          ∙ append_assoc c.loop-v.record.items (literal_of v (α v) ∷ []) rest
-          ∙ ap (λ l. c.loop-v.record.items ++ values_of α l) (sym (keep_here p v c.args.variables (omega arith) c.if-not-level-v.false)) ∙ c.loop-v.invariant.0,
+      ap (λ l. l ++ rest) (c.push.ensures.items ∙ ap (λ x. c.loop-v.numbers.items ++ x ∷ []) (to_z-of_z w32 c.literal_of.result fits ∙ c.literal_of.ensures))
+          ∙ append_assoc c.loop-v.numbers.items (literal_of v (α v) ∷ []) rest
+          ∙ ap (λ l. c.loop-v.numbers.items ++ values_of α l) (sym (keep_here p v c.args.variables (omega arith) c.if-not-level-v.false)) ∙ c.loop-v.invariant.0,
       omega (arith, c.loop-v.invariant.1, c.push.ensures.len),
     )
