@@ -12,6 +12,7 @@ pub struct Chain<'a> {
     words: &'a [i32],
     at: usize,
     signals: usize,
+    // No Option around `at`: a sound chain that is read to its end stands at 0, as one that was not sound does.
     whole: bool,
     ghost sound: { is_linked at signals words.now (length words.now) at ≡ true },
 }
