@@ -3,6 +3,7 @@ use Rattle.std.proofs.Common.{◌≡◌, ℕ, ◌+◌, ◌-◌, ◌<◌, ◌≤�
 use Rattle.std.specs.List.{AllByRecursion}
 use Rattle.std.proofs.ByRecursion.{All-get_or}
 use Rattle.std.proofs.lemmas.List.{length-set, get_or-set_other}
+use Rattle.std.proofs.lemmas.List.Recursion.{or_from_places}
 use Rattle.std.proofs.lemmas.Bool.{both_ways}
 use Rattle.pool.specs.Records.{Literal}
 use Rattle.engine.specs.Truth.{literal, clause, chain}
@@ -10,7 +11,7 @@ use Rattle.propagation.specs.Rows.{at, Shaped, False, Agrees, Refuted, Blocked, 
 use Rattle.propagation.specs.Steps.{Silent, Forced, Ready, Grown, Traced}
 use Rattle.propagation.proofs.Growing.{agrees_set, agrees_unset, noted_assign, noted_trail}
 use Rattle.propagation.proofs.Heard.{holding_stays, forced_heard}
-use Rattle.propagation.proofs.Blocks.{literal_false, clause_false, clause_forced}
+use Rattle.propagation.proofs.Blocks.{literal_false, clause_forced}
 
 pub grown_start : (s : ℕ) (cs : List (List ℤ)) (row : List ℤ) (trail : List ℕ) (mark : ℕ) (marks : List Bool) → Ready s row trail mark marks → Grown cs row trail mark row trail mark
 grown_start s cs row trail mark marks ready =
@@ -67,7 +68,7 @@ pub blocked_fails : (cs : List (List ℤ)) (marks : List Bool) (row xs : List �
     → ((k : ℕ) → k < length xs → get_or marks (nat_abs (get_or xs k (pos 0)) - 1) false ≡ true) → ((k : ℕ) → k < length xs → False row (get_or xs k (pos 0)))
     → ((a : ℕ → Bool) → chain a cs ≡ true → clause a xs ≡ true) → Blocked cs marks row
 blocked_fails cs marks row xs shaped literals marked fails member a meets agrees =
-    let no' = clause_false a xs
+    let no' = or_from_places (clause a) (literal a) refl (λ _ _. refl) xs (pos 0)
     (λ k h.
     let named = All-get_or (Literal (length row)) xs k (pos 0) h literals in
     let low = named.0 in

@@ -28,10 +28,7 @@ fn forces(values: &[i32], numbers: &[i32], x: i32) -> bool
     requires { AllByRecursion (Literal (length values.now)) numbers.now }
     ensures { result ≡ true → Forced values.now numbers.now x }
 {
-    match weigh(values, numbers) {
-        Status::Forces(y) => y == x,
-        _ => false,
-    }
+    weigh(values, numbers) == Status::Forces(x)
 }
 
 // A record that hangs on x alone.
@@ -61,9 +58,7 @@ pub fn explain(
     ensures row { values.new ≡ back (top - mark) trail.now mark values.old }
     ensures blocked { Blocked (records_of chain.entry) marks.new values.new }
 {
-    let mut t = top;
-    while t > mark {
-        t -= 1;
+    for t in (mark..top).rev() {
         let i = trail[t];
         let x = values[i];
         values[i] = 0;

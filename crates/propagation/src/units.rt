@@ -46,8 +46,7 @@ pub fn propagate(
                     assign(values, trail, top, x);
                     top += 1;
                 }
-                Status::Holds => {}
-                Status::Open => {}
+                Status::Holds | Status::Open => {}
             }
         }
         if top == before {
