@@ -37,6 +37,7 @@ pub(crate) fn choose(chain: Chain, values: &[i32]) -> Option<usize>
 {
     let mut low = None;
     let mut rest = chain;
+    // No `for`: only Chain's own `next` says that the numbers name signals.
     while let Some(numbers) = rest.next() {
         low = lowest(values, numbers, low);
     }

@@ -66,6 +66,7 @@ fn write_used(assumptions: &[i32], marks: &[bool], out: &mut [i32]) -> usize
     ensures count { result ≡ length (used marks.now assumptions.now) }
     ensures words { out.new ≡ used marks.now assumptions.now ++ drop result out.old }
 {
+    // An index: of a zip over iter_mut a proof knows no word.
     let mut n = 0;
     for x in assumptions {
         if marks[place_of(*x)] {

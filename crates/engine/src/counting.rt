@@ -48,18 +48,12 @@ fn all_hold(s: usize, n: u32, numbers: &[i32]) -> bool
 }
 
 // Whether each record of the chain has a number that holds.
-fn each_holds(n: u32, chain: Chain) -> bool
+fn each_holds(n: u32, mut chain: Chain) -> bool
     requires { signals_of chain ≤ 24 }
     ensures { result ≡ all_true (numbered (signals_of chain.entry) n) (records_of chain.entry) }
 {
-    // A while loop: Chain is no Iterator.
-    let mut rest = chain;
-    while let Some(record) = rest.next() {
-        if !any_holds(rest.signals(), n, record) {
-            return false;
-        }
-    }
-    true
+    let s = chain.signals();
+    chain.all(|record| any_holds(s, n, record))
 }
 
 // Whether the assignment n makes the records and the assumptions true.

@@ -1,11 +1,14 @@
 -- The tests of soundness say what soundness does. Assumes nothing.
 use Rattle.std.proofs.Common.{◌≡◌, ℕ, zero, suc, ◌+◌, Bool, true, false, ◌&&◌, T, ltb, leb, List, [], ◌∷◌, length, ℤ, pos, nat_abs, refl, arith}
 use lib.Signed.{le_z, le_z_yes}
-use Rattle.std.specs.List.{AllByRecursion}
+use Rattle.std.specs.List.{All, AllByRecursion}
+use Rattle.std.proofs.lemmas.List.Elements.{All-from_recursion}
 use Rattle.std.proofs.lemmas.Bool.{false≢true, and_parts, and_from, leb-true, le-leb, ltb-true, lt-ltb, eqb-true, eq-eqb}
+use Rattle.pool.specs.declared.chain.Chain.{Chain}
+use Rattle.pool.specs.Chains.{records_of}
 use Rattle.pool.specs.Layout.{word_at, next_at, count_at, numbers_at, Lies}
 use Rattle.pool.specs.Records.{records, Literal, Whole, Linked}
-use Rattle.pool.proofs.Chains.{whole_at, rest_at, records_step}
+use Rattle.pool.proofs.Chains.{whole_at, rest_at, records_step, records_literals}
 use Rattle.pool.specs.Tests.{are_literals, is_whole, is_linked}
 
 test_from_sign : (b : Bool) → T b → b ≡ true
@@ -81,3 +84,9 @@ read_from_test s pool p some e =
       steps = records_step s pool used p (omega arith) linked;
       literals = (whole_at s pool used p some linked).literals;
     }
+
+-- each record of a chain names signals
+pub literals_of : (c : Chain) → All (AllByRecursion (Literal c.signals)) (records_of c)
+literals_of c =
+    All-from_recursion (AllByRecursion (Literal c.signals)) (records_of c)
+    (records_literals c.signals c.words.now (length c.words.now) c.at c.at (linked_from_test c.signals c.words.now (length c.words.now) c.at c.at c.sound))

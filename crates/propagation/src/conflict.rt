@@ -32,17 +32,11 @@ fn forces(values: &[i32], numbers: &[i32], x: i32) -> bool
 }
 
 // A record that hangs on x alone.
-fn reason<'a>(chain: Chain<'a>, values: &[i32], x: i32) -> Option<&'a [i32]>
+fn reason<'a>(mut chain: Chain<'a>, values: &[i32], x: i32) -> Option<&'a [i32]>
     requires { signals_of chain ≡ length values.now }
     ensures { IfSome result (λ xs. AllByRecursion (Literal (length values.now)) xs.now × Forced values.now xs.now x × ((a : ℕ → Bool) → all_true a (records_of chain.entry) ≡ true → clause a xs.now ≡ true)) }
 {
-    let mut rest = chain;
-    while let Some(numbers) = rest.next() {
-        if forces(values, numbers, x) {
-            return Some(numbers);
-        }
-    }
-    None
+    chain.find(|numbers| forces(values, numbers, x))
 }
 
 // Opens again the signals of the trail from `mark` to `top`, and leaves marks under which the rest still clashes.

@@ -25,5 +25,6 @@ returns c =
           ∙ ap (λ xs. xs ∷ records self.words.now (next_at self.words.now self.at)) (sym c.numbers-record.ensures)
           ∙ ap (λ p. c.numbers-record.result.now ∷ records self.words.now p) (sym c.next-self.ensures);
       literals = rw c.numbers-record.ensures read.literals;
+      ended = tt;
       same = (refl, refl);
     }
