@@ -58,6 +58,21 @@ module _ {s : ℕ} {cs : List (List ℤ)} {row₀ : List ℤ} {trail₀ : List �
   pub reopened : (b : Bool) → set (set row i (sign b i)) i (pos 0) ≡ row
   reopened b = set-set row i (sign b i) (pos 0) ∙ ap (set row i) (sym (zero_from_abs (at row i) fork.unset)) ∙ set-get_or row i (pos 0)
 
+  -- what a try of a branch that failed leaves: the row, that it is as before the branch once i is open again, the trail's front, the marks
+  abbrev pub Tried : Bool → List ℤ → List ℕ → List Bool → Type 0
+  Tried v row' trail' marks' =
+      (row' ≡ set row i (sign v i)) × (set row' i (pos 0) ≡ row) × (take (top + 1) trail' ≡ take (top + 1) (set trail top i)) × Blocked cs marks' (set row i (sign v i))
+
+  pub tried_from : (v : Bool) {row₁ row' : List ℤ} {trail₁ trail' : List ℕ} {marks' : List Bool} → row₁ ≡ set row i (sign v i) → take (top + 1) trail₁ ≡ take (top + 1) (set trail top i)
+      → Stuck cs row₁ trail₁ (top + 1) row' trail' marks' → Tried v row' trail' marks'
+  tried_from v {marks' = marks'} is front stuck =
+      let same = stuck.same ∙ is in
+      (same, ap (λ l. set l i (pos 0)) same ∙ reopened v, stuck.kept ∙ front, subst (Blocked cs marks') is stuck.blocked)
+
+  -- the other branch, behind one that failed
+  pub other_row : {row' row₂ : List ℤ} → row' ≡ set row i (sign false i) → row₂ ≡ set row' i (sign true i) → row₂ ≡ set row i (sign true i)
+  other_row same is = is ∙ ap (λ l. set l i (sign true i)) same ∙ set-set row i (sign false i) (sign true i)
+
   module _ (trail' : List ℕ) (e : take (top + 1) trail' ≡ take (top + 1) (set trail top i)) (wide' : length trail' ≡ length trail₀) where
     pub branch_ready : (b : Bool) (marks' : List Bool) → length row ≤ length marks' → Ready s (set row i (sign b i)) trail' (top + 1) marks'
     branch_ready b marks' space =

@@ -1,5 +1,5 @@
 -- The lowest open signal of the records that are not yet true. Assumes nothing.
-use Rattle.std.proofs.Common.{◌≡◌, ℕ, zero, suc, ◌+◌, ◌-◌, ◌<◌, ◌≤◌, min, Bool, true, false, ◌⊎◌, List, [], ◌∷◌, length, get_or, ℤ, pos, nat_abs, sym, refl, ap, ◌∙◌, subst, inl, inr, ⊎_elim, le_trans, arith}
+use Rattle.std.proofs.Common.{◌≡◌, ℕ, zero, suc, ◌+◌, ◌-◌, ◌<◌, ◌≤◌, min, Bool, true, false, ◌⊎◌, List, [], ◌∷◌, length, get_or, ℤ, pos, nat_abs, Some, None, Option, MatchOption, IfSome, sym, refl, ap, ◌∙◌, subst, inl, inr, ⊎_elim, le_trans, arith}
 use Rattle.std.specs.List.{AllByRecursion}
 use Rattle.std.proofs.lemmas.Bool.{and_from, or_left, or_right, both_ways}
 use Rattle.engine.specs.Truth.{literal, clause, chain}
@@ -7,39 +7,59 @@ use Rattle.propagation.specs.Rows.{at, word_of, Shaped, Agrees}
 use Rattle.branching.specs.Search.{sign, positive, NotBefore}
 use Rattle.branching.proofs.Order.{value_from_word}
 use Rattle.propagation.specs.Steps.{TrueAt, OpenAt, Holding, Alive, Silent, Grown}
-use Rattle.branching.specs.Search.{From, Completed, Met}
+use Rattle.branching.specs.Search.{place_in, From, Chosen, Completed, Met}
 
 -- `low` is `best`, or an open signal that one of the first n numbers names
-abbrev pub Found : List ℤ → List ℤ → ℕ → ℕ → ℕ → Type 0
-Found row xs best low n = (low ≡ best) ⊎ ((low < length row) × (nat_abs (at row low) ≡ 0) × ((k : ℕ) × (k < n) × (nat_abs (get_or xs k (pos 0)) - 1 ≡ low)))
+abbrev pub Found : List ℤ → List ℤ → Option ℕ → Option ℕ → ℕ → Type 0
+Found row xs best low n = (low ≡ best) ⊎ IfSome low (λ i. (i < length row) × (nat_abs (at row i) ≡ 0) × ((k : ℕ) × (k < n) × (nat_abs (get_or xs k (pos 0)) - 1 ≡ i)))
 
-pub found_more : (row xs : List ℤ) (best low n : ℕ) → Found row xs best low n → Found row xs best low (n + 1)
-found_more row xs best low n found =
+pub found_more : (row xs : List ℤ) (best low : Option ℕ) (n : ℕ) → Found row xs best low n → Found row xs best low (n + 1)
+found_more row xs best None n found = ⊎_elim (λ same. inl same) (λ o. inr o) found
+found_more row xs best (Some i) n found =
     ⊎_elim (λ same. inl same) (λ o. let below = o.2.1 in inr (o.0, o.1, (o.2.0, omega arith, o.2.2))) found
 
-pub found_lower : (row xs : List ℤ) (best low n new : ℕ) → nat_abs (get_or xs n (pos 0)) - 1 < length row → nat_abs (word_of row (get_or xs n (pos 0))) ≡ 0
-    → new ≡ min (nat_abs (get_or xs n (pos 0)) - 1) low → Found row xs best low n → Found row xs best new (n + 1)
-found_lower row xs best low n new inside open' is found =
+-- the lower one of `low` and the open signal p
+abbrev pub Lower : Option ℕ → ℕ → ℕ → Type 0
+Lower low p new = MatchOption low (new ≡ p) (λ old. new ≡ min old p)
+
+pub lower_place : (row : List ℤ) (low : Option ℕ) (p new : ℕ) → p < length row → Lower low p new → (new ≤ place_in row low) × (new ≤ p)
+lower_place row None p new h is = (omega arith, omega arith)
+lower_place row (Some old) p new h is = (omega arith, omega arith)
+
+pub found_lower : (row xs : List ℤ) (best low : Option ℕ) (n new : ℕ) → nat_abs (get_or xs n (pos 0)) - 1 < length row → nat_abs (word_of row (get_or xs n (pos 0))) ≡ 0
+    → Lower low (nat_abs (get_or xs n (pos 0)) - 1) new → Found row xs best low n → Found row xs best (Some new) (n + 1)
+found_lower row xs best None n new inside open' is found = inr (omega arith, ap (λ i. nat_abs (at row i)) is ∙ open', (n, omega arith, sym is))
+found_lower row xs best (Some old) n new inside open' is found =
     ⊎_elim
     (λ (first : new ≡ nat_abs (get_or xs n (pos 0)) - 1). inr (omega arith, ap (λ i. nat_abs (at row i)) first ∙ open', (n, omega arith, sym first)))
-    (λ (second : new ≡ low). subst (λ m. Found row xs best m (n + 1)) (sym second) (found_more row xs best low n found))
-    (one (nat_abs (get_or xs n (pos 0)) - 1) low new is)
+    (λ (second : new ≡ old). subst (λ m. Found row xs best (Some m) (n + 1)) (sym second) (found_more row xs best (Some old) n found))
+    (one (nat_abs (get_or xs n (pos 0)) - 1) old new is)
   where
     either : (p low : ℕ) → (p ≤ low) ⊎ (low ≤ p)
     either p low = grind arith
 
-    one : (p low new : ℕ) → new ≡ min p low → (new ≡ p) ⊎ (new ≡ low)
+    one : (p low new : ℕ) → new ≡ min low p → (new ≡ p) ⊎ (new ≡ low)
     one p low new is = ⊎_elim (λ (a : p ≤ low). inl (omega arith)) (λ (b : low ≤ p). inr (omega arith)) (either p low)
 
 -- a signal that a record with no true number names
-pub found_heard : (row xs : List ℤ) (best low n : ℕ) → n ≤ length xs → ((k : ℕ) → k < length xs → word_of row (get_or xs k (pos 0)) ≡ get_or xs k (pos 0) → ⊥)
-    → Found row xs best low n → (low ≡ best) ⊎ ((low < length row) × (nat_abs (at row low) ≡ 0) × (Silent row low xs → ⊥))
-found_heard row xs best low n few none found =
+pub found_heard : (row xs : List ℤ) (best low : Option ℕ) (n : ℕ) → n ≤ length xs → ((k : ℕ) → k < length xs → word_of row (get_or xs k (pos 0)) ≡ get_or xs k (pos 0) → ⊥)
+    → Found row xs best low n → (low ≡ best) ⊎ IfSome low (λ i. (i < length row) × (nat_abs (at row i) ≡ 0) × (Silent row i xs → ⊥))
+found_heard row xs best None n few none found = ⊎_elim (λ same. inl same) (λ o. inr o) found
+found_heard row xs best (Some i) n few none found =
     ⊎_elim (λ same. inl same)
     (λ o.
     let below = o.2.1 in
     inr (o.0, o.1, (λ silent. ⊎_elim (λ (holds : Holding row xs). none holds.0 holds.1.0 holds.1.2) (λ unnamed. unnamed o.2.0 (omega arith) o.2.2) silent)))
     found
+
+-- an open signal that a record with no true number names, one of a chain
+abbrev pub Heard : List ℤ → List (List ℤ) → Option ℕ → Type 0
+Heard row cs low = IfSome low (λ i. (i < length row) × (nat_abs (at row i) ≡ 0) × (AllByRecursion (Silent row i) cs → ⊥))
+
+pub heard_among : (row xs : List ℤ) (cs : List (List ℤ)) (low : Option ℕ) → ((j : ℕ) → AllByRecursion (Silent row j) cs → Silent row j xs)
+    → IfSome low (λ i. (i < length row) × (nat_abs (at row i) ≡ 0) × (Silent row i xs → ⊥)) → Heard row cs low
+heard_among row xs cs None among heard = heard
+heard_among row xs cs (Some i) among heard = (heard.0, heard.1, (λ all. heard.2 (among i all)))
 
 -- a lower bound serves as well
 pub from_lower : (row : List ℤ) (m n : ℕ) (xs : List ℤ) → m ≤ n → From row n xs → From row m xs
@@ -62,6 +82,10 @@ holding_from row m xs h alive from =
 pub all_holding : (row : List ℤ) (m : ℕ) (cs : List (List ℤ)) → length row ≤ m → AllByRecursion (Alive row) cs → AllByRecursion (From row m) cs → AllByRecursion (Holding row) cs
 all_holding row m [] h alive from = tt
 all_holding row m (c ∷ cs) h alive from = (holding_from row m c h alive.0 from.0, all_holding row m cs h alive.1 from.1)
+
+pub chosen_from : (row : List ℤ) (cs : List (List ℤ)) (low : Option ℕ) → Heard row cs low → AllByRecursion (From row (place_in row low)) cs → AllByRecursion (Alive row) cs → Chosen cs row low
+chosen_from row cs None heard from alive = all_holding row (length row) cs (omega arith) alive from
+chosen_from row cs (Some i) heard from alive = (heard.0, heard.1, from, heard.2)
 
 -- a record with a true number is true under each assignment that agrees
 clause_holding : (row : List ℤ) (a : ℕ → Bool) (xs : List ℤ) (k : ℕ) → TrueAt row xs k → Agrees row a → clause a xs ≡ true

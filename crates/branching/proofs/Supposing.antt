@@ -1,7 +1,7 @@
 -- The row of the assumptions. Assumes nothing.
-use Rattle.std.proofs.Common.{◌≡◌, ℕ, zero, suc, ◌+◌, ◌-◌, ◌<◌, Bool, true, false, List, [], ◌∷◌, length, get_or, set, replicate, ℤ, pos, nat_abs, sym, refl, ap, ◌∙◌, subst, ⊎_elim, arith}
+use Rattle.std.proofs.Common.{◌≡◌, ℕ, zero, suc, ◌+◌, ◌-◌, ◌<◌, Bool, true, false, List, length, get_or, set, replicate, ℤ, pos, nat_abs, sym, refl, ap, ◌∙◌, subst, ⊎_elim, arith}
 use Rattle.std.proofs.lemmas.List.{length-set, get_or-replicate, get_or-set_same, get_or-set_other}
-use Rattle.std.proofs.lemmas.Bool.{and_from, both_ways, cases_eq}
+use Rattle.std.proofs.lemmas.Bool.{both_ways, cases_eq}
 use Rattle.pool.specs.Records.{Literal}
 use Rattle.engine.specs.Truth.{literal, each}
 use Rattle.propagation.specs.Rows.{at, word_of, Shaped, False, Agrees, opens}
@@ -23,10 +23,6 @@ agrees_true row a x named agrees e =
     let high = named.1 in
     let size = ap nat_abs e in
     ap (literal a) (sym e) ∙ agrees (nat_abs x - 1) (omega arith) (omega arith)
-
-pub each-from_at : (a : ℕ → Bool) (xs : List ℤ) → ((k : ℕ) → k < length xs → literal a (get_or xs k (pos 0)) ≡ true) → each a xs ≡ true
-each-from_at a [] h = refl
-each-from_at a (x ∷ xs) h = and_from (literal a x) (each a xs) (h 0 (omega arith)) (each-from_at a xs (λ k hk. h (suc k) (omega arith)))
 
 -- each word of the row is one of the first n assumptions
 abbrev pub Sourced : List ℤ → List ℤ → ℕ → Type 0

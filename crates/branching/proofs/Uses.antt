@@ -2,6 +2,7 @@
 use Rattle.std.proofs.Common.{◌≡◌, ℕ, zero, suc, ◌+◌, ◌-◌, ◌<◌, Bool, true, false, cond, List, [], ◌∷◌, ◌++◌, length, get_or, take, drop, set, ℤ, pos, nat_abs, sym, refl, ap, ◌∙◌, append_assoc, append-nil, arith}
 use Rattle.std.proofs.lemmas.List.{take_more, drop_more, set_at}
 use Rattle.std.proofs.lemmas.Bool.{and_parts}
+use Rattle.std.proofs.lemmas.List.Recursion.{and_at}
 use Rattle.engine.specs.Truth.{literal, each}
 use Rattle.engine.specs.Meaning.{Part, Clash}
 use Rattle.engine.specs.Meaning.Part.{none, keep, leave}
@@ -70,9 +71,4 @@ pub agrees_sourced : (a : ℕ → Bool) (named row : List ℤ) → ((i : ℕ) �
     → each a named ≡ true → Agrees row a
 agrees_sourced a named row from holds i h e =
     let source = from i h e in
-    ap (literal a) (sym source.2) ∙ each_at a named holds source.0 source.1
-  where
-    each_at : (a : ℕ → Bool) (xs : List ℤ) → each a xs ≡ true → (k : ℕ) → k < length xs → literal a (get_or xs k (pos 0)) ≡ true
-    each_at a [] e k h = absurd (omega arith)
-    each_at a (x ∷ xs) e zero h = (and_parts (literal a x) (each a xs) e).0
-    each_at a (x ∷ xs) e (suc k) h = each_at a xs (and_parts (literal a x) (each a xs) e).1 k (omega arith)
+    ap (literal a) (sym source.2) ∙ and_at (each a) (literal a) refl (λ _ _. refl) named source.0 (pos 0) source.1 holds

@@ -1,5 +1,5 @@
 -- What the search comes to: a choice of a signal, a complete row, the assumptions that were used. Assumes nothing.
-use Rattle.std.specs.Prelude.{◌≡◌, ℕ, suc, ◌+◌, ◌-◌, ◌<◌, ◌≤◌, Bool, true, false, cond, ◌⊎◌, List, [], ◌∷◌, length, take, ℤ, pos, negsuc, Some, None, Option, ◌≢◌, slice_index_or, unsigned_abs}
+use Rattle.std.specs.Prelude.{◌≡◌, ℕ, suc, ◌+◌, ◌-◌, ◌<◌, ◌≤◌, Bool, true, false, cond, ◌⊎◌, List, [], ◌∷◌, length, take, ℤ, pos, negsuc, Some, None, Option, IfSome, ◌≢◌, slice_index_or, unsigned_abs}
 use Rattle.std.specs.List.{AllByRecursion}
 use Rattle.engine.specs.Truth.{each, chain}
 use Rattle.engine.specs.Meaning.{Meets, Clash, values}
@@ -39,9 +39,14 @@ pub record Met (cs : List (List ℤ)) (row₀ row : List ℤ) : Type 0 where
   pub quiet : (j : ℕ) → j < length row₀ → unsigned_abs (at row₀ j) ≡ 0 → AllByRecursion (Silent row₀ j) cs → at row j ≡ sign false j
   pub first : (b : ℕ → Bool) → chain b cs ≡ true → Agrees row₀ b → NotBefore row b
 
+-- where the lowest open signal lies, or behind the row where there is none
+abbrev pub place_in : List ℤ → Option ℕ → ℕ
+place_in row None = length row
+place_in row (Some i) = i
+
 -- the lower of `best` and the open signals of a record that has no true number
-abbrev pub Lowest : List ℤ → List ℤ → ℕ → ℕ → Type 0
-Lowest row xs best low = (low ≤ best) × ((low ≡ best) ⊎ ((low < length row) × (unsigned_abs (at row low) ≡ 0) × (Silent row low xs → ⊥))) × From row low xs
+abbrev pub Lowest : List ℤ → List ℤ → Option ℕ → Option ℕ → Type 0
+Lowest row xs best low = (place_in row low ≤ place_in row best) × ((low ≡ best) ⊎ (IfSome low (λ i. (i < length row) × (unsigned_abs (at row i) ≡ 0) × (Silent row i xs → ⊥)))) × From row (place_in row low) xs
 
 -- the lowest open signal of the records with no true number; none where each has one
 abbrev pub Chosen : List (List ℤ) → List ℤ → Option ℕ → Type 0

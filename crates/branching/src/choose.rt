@@ -1,27 +1,18 @@
 // Which signal to branch on: the lowest open one that a record which is not yet true names.
 // Where every record is true, the signals that are still open become false.
-ghost use Rattle.std.specs.Prelude.{◌≡◌, ◌<◌, ◌≤◌, length};
+ghost use Rattle.std.specs.Prelude.{◌≡◌, ◌≤◌, length};
 ghost use Rattle.std.specs.List.{AllByRecursion};
 ghost use Rattle.pool.specs.Records.{Literal};
 ghost use Rattle.pool.specs.Chains.{records_of, signals_of};
-ghost use Rattle.branching.specs.Search.{sign};
 ghost use Rattle.propagation.specs.Steps.{Alive};
 ghost use Rattle.branching.specs.Search.{Lowest, Chosen, Completed};
 
+use engine::signed;
 use pool::Chain;
 use propagation::{place_of, value_of};
 
-// The number of the signal after i, or the opposite.
-pub(crate) fn signed(i: usize, value: bool) -> i32
-    requires { i < 1280 }
-    ensures { result ≡ sign value i }
-{
-    let signal = i as i32 + 1;
-    if value { signal } else { -signal }
-}
-
 // The lower of `best` and the places of a record's open signals, or `best` where the record is true.
-fn lowest(values: &[i32], numbers: &[i32], best: usize) -> usize
+fn lowest(values: &[i32], numbers: &[i32], best: Option<usize>) -> Option<usize>
     requires { AllByRecursion (Literal (length values.now)) numbers.now }
     ensures { Lowest values.now numbers.now best result }
 {
@@ -32,7 +23,8 @@ fn lowest(values: &[i32], numbers: &[i32], best: usize) -> usize
             return best;
         }
         if value == 0 {
-            low = place_of(*x).min(low);
+            let place = place_of(*x);
+            low = Some(low.map_or(place, |old| old.min(place)));
         }
     }
     low
@@ -43,12 +35,13 @@ pub(crate) fn choose(chain: Chain, values: &[i32]) -> Option<usize>
     requires { (signals_of chain ≡ length values.now) × (AllByRecursion (Alive values.now) (records_of chain)) }
     ensures { Chosen (records_of chain.entry) values.now result }
 {
-    let mut low = values.len();
+    let mut low = None;
     let mut rest = chain;
+    // No `for`: only Chain's own `next` says that the numbers name signals.
     while let Some(numbers) = rest.next() {
         low = lowest(values, numbers, low);
     }
-    if low < values.len() { Some(low) } else { None }
+    low
 }
 
 // Makes each open signal false.
@@ -56,9 +49,9 @@ pub(crate) fn complete(values: &mut [i32])
     requires { length values.old ≤ 1280 }
     ensures { Completed values.old values.new }
 {
-    for i in 0..values.len() {
-        if values[i] == 0 {
-            values[i] = signed(i, false);
+    for (i, value) in values.iter_mut().enumerate() {
+        if *value == 0 {
+            *value = signed(i, false);
         }
     }
 }

@@ -7,9 +7,10 @@ ghost use Rattle.branching.specs.Search.{sign};
 ghost use Rattle.propagation.specs.Steps.{Ready, Traced, Stuck};
 ghost use Rattle.branching.specs.Search.{Met};
 
-use crate::choose::{choose, complete, signed};
+use crate::choose::{choose, complete};
+use engine::{MAX_SIGNALS, signed};
 use pool::Chain;
-use propagation::{explain, propagate};
+use propagation::{assign, explain, propagate};
 
 // Adds the marks of `others`.
 fn join(marks: &mut [bool], others: &[bool])
@@ -17,10 +18,8 @@ fn join(marks: &mut [bool], others: &[bool])
     ensures first { (k : ℕ) → slice_index_or marks.old k false ≡ true → slice_index_or marks.new k false ≡ true }
     ensures second { (k : ℕ) → k < length marks.old → slice_index_or others.now k false ≡ true → slice_index_or marks.new k false ≡ true }
 {
-    for k in 0..marks.len() {
-        if others[k] {
-            marks[k] = true;
-        }
+    for (k, mark) in marks.iter_mut().enumerate() {
+        *mark |= others[k];
     }
 }
 
@@ -30,8 +29,7 @@ fn decide(values: &mut [i32], trail: &mut [usize], top: usize, i: usize, value: 
     ensures row { values.new ≡ slice_set values.old i (sign value i) }
     ensures place { trail.new ≡ slice_set trail.old top i }
 {
-    values[i] = signed(i, value);
-    trail[top] = i;
+    assign(values, trail, top, signed(i, value));
 }
 
 // Opens the signal after i and those of the trail from `mark` to `top`, with what the clash rests on marked.
@@ -80,7 +78,7 @@ pub(crate) fn search(
         return false;
     }
     decide(values, trail, top, i, true);
-    let mut others = [false; 1280];
+    let mut others = [false; MAX_SIGNALS];
     if search(chain, values, trail, top + 1, &mut others) {
         return true;
     }

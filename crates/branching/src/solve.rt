@@ -7,11 +7,10 @@ ghost use Rattle.pool.specs.Chains.{records_of, signals_of};
 ghost use Rattle.engine.specs.Asking.{asked};
 ghost use Rattle.engine.specs.Count.{First};
 ghost use Rattle.engine.specs.Meaning.{Answered};
-ghost use Rattle.branching.specs.Search.{used};
-ghost use Rattle.branching.specs.Search.{Supposed, Solved};
+ghost use Rattle.branching.specs.Search.{used, Supposed, Solved};
 
 use crate::search::search;
-use engine::{Answer, Engine, Question, Refusal, admit, copy_front};
+use engine::{Answer, Engine, MAX_SIGNALS, Question, Refusal, admit, copy_front};
 use pool::Chain;
 use propagation::{assign, place_of, value_of};
 
@@ -67,6 +66,7 @@ fn write_used(assumptions: &[i32], marks: &[bool], out: &mut [i32]) -> usize
     ensures count { result ≡ length (used marks.now assumptions.now) }
     ensures words { out.new ≡ used marks.now assumptions.now ++ drop result out.old }
 {
+    // An index: of a zip over iter_mut a proof knows no word.
     let mut n = 0;
     for x in assumptions {
         if marks[place_of(*x)] {
@@ -79,9 +79,9 @@ fn write_used(assumptions: &[i32], marks: &[bool], out: &mut [i32]) -> usize
 
 #[derive(Clone, Copy)]
 pub struct Branching {
-    values: [i32; 1280],
-    trail: [usize; 1280],
-    marks: [bool; 1280],
+    values: [i32; MAX_SIGNALS],
+    trail: [usize; MAX_SIGNALS],
+    marks: [bool; MAX_SIGNALS],
 }
 
 impl Branching {
@@ -89,9 +89,9 @@ impl Branching {
         ensures { result.values ≡ replicate 1280 (pos 0) }
     {
         Branching {
-            values: [0; 1280],
-            trail: [0; 1280],
-            marks: [false; 1280],
+            values: [0; MAX_SIGNALS],
+            trail: [0; MAX_SIGNALS],
+            marks: [false; MAX_SIGNALS],
         }
     }
 }
@@ -100,14 +100,14 @@ impl Engine for Branching {
     ghost most = { 1280 };
 
     fn largest() -> usize {
-        1280
+        MAX_SIGNALS
     }
 
     fn ask(&mut self, question: Question, out: &mut [i32]) -> Result<Answer, Refusal>
         ensures answered { Answered 1280 (asked question.entry) out.old out.new result }
         ensures first { First (asked question.entry) out.old out.new result }
     {
-        admit(1280, question, out.len())?;
+        admit(Self::largest(), question, out.len())?;
         let s = question.signals;
         let chain = Chain::new(s, question.pool, question.used, question.head);
         if solve(

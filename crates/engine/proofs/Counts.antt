@@ -1,5 +1,5 @@
 -- What a search through all numbers finds. Assumes nothing.
-use Rattle.std.proofs.Common.{◌≡◌, ℕ, ◌≤◌, Bool, List, ℤ, Some, None, Option, sym, subst, ⊎_elim, arith}
+use Rattle.std.proofs.Common.{◌≡◌, ℕ, ◌^◌, ◌<◌, ◌≤◌, Bool, List, ℤ, Some, None, Option, MatchOption, sym, subst, ⊎_elim, arith}
 use Rattle.std.specs.List.{AllByRecursion}
 use Rattle.std.proofs.lemmas.Bool.{cases_lt}
 use Rattle.pool.specs.Records.{Literal}
@@ -24,3 +24,11 @@ module _ (s : ℕ) (records : List (List ℤ)) (named : List ℤ) (literals : Al
 
 pub least_same : (s s' : ℕ) (records records' : List (List ℤ)) (named : List ℤ) (o : Option ℕ) → s ≡ s' → records ≡ records' → Least s records named o → Least s' records' named o
 least_same s s' records records' named o e f least = subst (λ t. Least t records' named o) e (subst (λ cs. Least s cs named o) f least)
+
+-- what `find` says of the numbers below 2 ^ s
+pub least_from : (s : ℕ) (records : List (List ℤ)) (named : List ℤ) (end : ℕ) (o : Option ℕ) → end ≡ 2 ^ s
+    → MatchOption o ((k : ℕ) → 0 ≤ k → k < end → Meets records named (numbered s k) → ⊥)
+    (λ i. (0 ≤ i) × (i < end) × Meets records named (numbered s i) × ((k : ℕ) → 0 ≤ k → k < i → Meets records named (numbered s k) → ⊥))
+    → Least s records named o
+least_from s records named end None e found = λ m h. found m (omega arith) (omega arith)
+least_from s records named end (Some n) e found = let below = found.1 in (omega arith, found.2, λ m h. found.3 m (omega arith) h)

@@ -8,9 +8,9 @@ mod question;
 mod tally;
 mod words;
 
-pub use admission::admit;
+pub use admission::{MAX_SIGNALS, admit, admit_size, largest_above};
 pub use asking::{Engine, answers_agree};
 pub use counting::Counting;
 pub use question::{Answer, Question, Refusal};
 pub use tally::Tally;
-pub use words::copy_front;
+pub use words::{copy_front, signed};

@@ -12,7 +12,7 @@ pub struct Question<'a> {
     pub assumptions: &'a [i32],
 }
 
-// `No` has the number of assumptions that clash with the chain.
+// `No` has the number of assumptions that clash with the chain. No Option: the answers have names of their own.
 #[derive(Clone, Copy)]
 pub enum Answer {
     Yes,

@@ -3,11 +3,9 @@ ghost use Rattle.std.specs.Prelude.{◌≡◌, ◌+◌, ◌-◌, ◌^◌, min};
 ghost use Rattle.engine.specs.Asking.{asked};
 ghost use Rattle.engine.specs.Meaning.{Answered};
 
+use crate::admission::{admit_size, largest_above};
 use crate::asking::Engine;
 use crate::question::{Answer, Question, Refusal};
-
-// A layer takes at most so many signals.
-const MOST: usize = 1280;
 
 #[derive(Drop)]
 pub struct Tally<E> {
@@ -37,7 +35,7 @@ impl<E: Engine> Engine for Tally<E> {
     ghost most = { min 1280 E.Engine.most };
 
     fn largest() -> usize {
-        E::largest().min(MOST)
+        largest_above::<E>()
     }
 
     fn ask(&mut self, question: Question, out: &mut [i32]) -> Result<Answer, Refusal>
@@ -45,9 +43,7 @@ impl<E: Engine> Engine for Tally<E> {
         ensures counted { self.new.questions ≡ min (2 ^ 64 - 1) (self.old.questions + 1) }
     {
         self.questions = self.questions.saturating_add(1);
-        if question.signals > Self::largest() {
-            return Err(Refusal::TooManySignals);
-        }
+        admit_size(Self::largest(), question, out.len())?;
         self.below.ask(question, out)
     }
 }

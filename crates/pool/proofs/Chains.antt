@@ -1,8 +1,8 @@
 -- One record of a sound chain after another: the fuel does not matter where it reaches the index. Assumes nothing.
-use Rattle.std.proofs.Common.{◌≡◌, ℕ, zero, suc, ◌<◌, ◌≤◌, ◌↔◌, List, [], ◌∷◌, length, ℤ, sym, refl, ap, le_trans, arith}
+use Rattle.std.proofs.Common.{◌≡◌, ℕ, zero, suc, ◌<◌, ◌≤◌, ◌↔◌, List, [], ◌∷◌, ℤ, sym, refl, ap, le_trans, arith}
 use Rattle.std.specs.List.{AllByRecursion}
-use Rattle.pool.specs.Layout.{next_at, numbers_at, Lies}
-use Rattle.pool.specs.Records.{walk, records, Literal, Whole, Linked, Sound}
+use Rattle.pool.specs.Layout.{next_at, numbers_at}
+use Rattle.pool.specs.Records.{walk, records, Literal, Whole, Linked}
 
 module _ (s : ℕ) (pool : List ℤ) (used : ℕ) where
   linked_end : (f : ℕ) → Linked f s pool used 0
@@ -31,11 +31,6 @@ module _ (s : ℕ) (pool : List ℤ) (used : ℕ) where
 
   pub rest_at : (p : ℕ) → (p ≡ 0 → ⊥) → Linked p s pool used p → Linked (next_at pool p) s pool used (next_at pool p)
   rest_at p h l = ((linked_step p (omega arith)).0 l).1
-
-  pub lies_at : used ≤ length pool → (p : ℕ) → (p ≡ 0 → ⊥) → Linked p s pool used p → Lies pool p (length pool)
-  lies_at u p h l =
-      let lies = (whole_at p h l).lies in
-      record { ends = le_trans lies.ends u; next_sign = lies.next_sign; count_sign = lies.count_sign }
 
   walk_end : (f : ℕ) → walk f pool 0 ≡ []
   walk_end zero = refl
@@ -69,9 +64,6 @@ linked_within s pool used used' h (suc f) (suc q) l =
       },
       linked_within s pool used used' h f (next_at pool (suc q)) l.1,
     )
-
-pub sound_within : (s : ℕ) (pool : List ℤ) (used used' head : ℕ) → used ≤ used' → used' ≤ length pool → Sound s pool used head → Sound s pool used' head
-sound_within s pool used used' head h k sound = (k, linked_within s pool used used' h head head sound.1)
 
 -- the numbers of a sound chain name signals
 pub records_literals : (s : ℕ) (pool : List ℤ) (used f p : ℕ) → Linked f s pool used p → AllByRecursion (AllByRecursion (Literal s)) (walk f pool p)

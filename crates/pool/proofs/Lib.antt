@@ -1,4 +1,5 @@
 pub mod Chains
+pub mod Cut
 pub mod Tested
 pub mod Kept
 pub mod Written

@@ -1,10 +1,14 @@
 -- The tests of soundness say what soundness does. Assumes nothing.
-use Rattle.std.proofs.Common.{◌≡◌, ℕ, zero, suc, ◌+◌, Bool, true, false, ◌&&◌, T, ltb, leb, List, [], ◌∷◌, ℤ, pos, nat_abs, refl}
+use Rattle.std.proofs.Common.{◌≡◌, ℕ, zero, suc, ◌+◌, Bool, true, false, ◌&&◌, T, ltb, leb, List, [], ◌∷◌, length, ℤ, pos, nat_abs, refl, arith}
 use lib.Signed.{le_z, le_z_yes}
-use Rattle.std.specs.List.{AllByRecursion}
+use Rattle.std.specs.List.{All, AllByRecursion}
+use Rattle.std.proofs.lemmas.List.Elements.{All-from_recursion}
 use Rattle.std.proofs.lemmas.Bool.{false≢true, and_parts, and_from, leb-true, le-leb, ltb-true, lt-ltb, eqb-true, eq-eqb}
-use Rattle.pool.specs.Layout.{word_at, next_at, count_at, numbers_at}
-use Rattle.pool.specs.Records.{Literal, Whole, Linked}
+use Rattle.pool.specs.declared.chain.Chain.{Chain}
+use Rattle.pool.specs.Chains.{records_of}
+use Rattle.pool.specs.Layout.{word_at, next_at, count_at, numbers_at, Lies}
+use Rattle.pool.specs.Records.{records, Literal, Whole, Linked}
+use Rattle.pool.proofs.Chains.{whole_at, rest_at, records_step, records_literals}
 use Rattle.pool.specs.Tests.{are_literals, is_whole, is_linked}
 
 test_from_sign : (b : Bool) → T b → b ≡ true
@@ -62,3 +66,27 @@ module _ (s : ℕ) (pool : List ℤ) (used : ℕ) where
   test_from_linked (suc f) zero l = refl
   test_from_linked (suc f) (suc q) l =
       and_from _ _ (test_from_whole (suc q) l.0) (test_from_linked f (next_at pool (suc q)) l.1)
+
+-- what reading the record at p of a chain that passed the test gives
+pub record Read (s : ℕ) (pool : List ℤ) (p : ℕ) : Type 0 where
+  pub lies : Lies pool p (length pool)
+  pub linked : is_linked (next_at pool p) s pool (length pool) (next_at pool p) ≡ true
+  pub steps : records pool p ≡ numbers_at pool p ∷ records pool (next_at pool p)
+  pub literals : AllByRecursion (Literal s) (numbers_at pool p)
+
+pub read_from_test : (s : ℕ) (pool : List ℤ) (p : ℕ) → (p ≡ 0 → ⊥) → is_linked p s pool (length pool) p ≡ true → Read s pool p
+read_from_test s pool p some e =
+    let used = length pool in
+    let linked = linked_from_test s pool used p p e in
+    record {
+      lies = (whole_at s pool used p some linked).lies;
+      linked = test_from_linked s pool used (next_at pool p) (next_at pool p) (rest_at s pool used p some linked);
+      steps = records_step s pool used p (omega arith) linked;
+      literals = (whole_at s pool used p some linked).literals;
+    }
+
+-- each record of a chain names signals
+pub literals_of : (c : Chain) → All (AllByRecursion (Literal c.signals)) (records_of c)
+literals_of c =
+    All-from_recursion (AllByRecursion (Literal c.signals)) (records_of c)
+    (records_literals c.signals c.words.now (length c.words.now) c.at c.at (linked_from_test c.signals c.words.now (length c.words.now) c.at c.at c.sound))

@@ -1,5 +1,5 @@
 -- What an appended record makes of the pool: every other chain stays, and the new one has the record in front. Assumes nothing.
-use Rattle.std.proofs.Common.{◌≡◌, ℕ, ◌+◌, ◌-◌, ◌<◌, ◌≤◌, Bool, true, false, T, leb, List, [], ◌∷◌, ◌++◌, length, get_or, take, drop, set, ℤ, pos, nat_abs, ◌≤ℤ◌, sym, refl, ap, ◌∙◌, subst, append_assoc, add-zero, arith, w32, to_z}
+use Rattle.std.proofs.Common.{◌≡◌, ℕ, ◌+◌, ◌<◌, ◌≤◌, Bool, true, false, T, leb, List, [], ◌∷◌, ◌++◌, length, get_or, take, drop, set, ℤ, pos, nat_abs, ◌≤ℤ◌, sym, refl, ap, ◌∙◌, subst, append_assoc, add-zero, arith, w32, to_z}
 use lib.Signed.{le_z, le_z_yes}
 use lib.Seq.{drop-append-add}
 use borrow.Rule.Slice.PartMut.{put_mid}
@@ -41,17 +41,16 @@ written_is pool at k x y xs room is =
     (drop-put_mid (at + 2) k all xs m (omega arith) (omega arith) (sym is) ∙ drop-set-lt m (set pool at x) (at + 1) y (omega arith) ∙ drop-set-lt m pool at x (omega arith))
 
 -- the words that are written, as they are cast and copied
-pub words_written : (pool : List ℤ) (used head p : ℕ) (xs copied : List ℤ) → p ≡ place_after used → Room (length pool) used head (length xs) → copied ≡ xs
-    → put_mid (p + 2) (p + 2 + length xs - (p + 2)) (set (set pool p (to_z w32 head)) (p + 1) (to_z w32 (length xs))) copied ≡ written pool used head xs
-words_written pool used head p xs copied at room same =
+pub words_written : (pool : List ℤ) (used head p k : ℕ) (xs copied : List ℤ) → p ≡ place_after used → k ≡ length xs → Room (length pool) used head (length xs) → copied ≡ xs
+    → put_mid (p + 2) k (set (set pool p (to_z w32 head)) (p + 1) (to_z w32 (length xs))) copied ≡ written pool used head xs
+words_written pool used head p k xs copied at long room same =
     let below = room.below in
     let within = room.within in
     let indexed = room.indexed in
-    let k = p + 2 + length xs - (p + 2) in
     ap (put_mid (p + 2) k (set (set pool p (to_z w32 head)) (p + 1) (to_z w32 (length xs)))) same
     ∙ ap (λ z. put_mid (p + 2) k (set (set pool p z) (p + 1) (to_z w32 (length xs))) xs) (to_z_pos w32 head (omega arith))
     ∙ ap (λ z. put_mid (p + 2) k (set (set pool p (pos head)) (p + 1) z) xs) (to_z_pos w32 (length xs) (omega arith))
-    ∙ written_is pool p k (pos head) (pos (length xs)) xs (omega arith) (omega arith)
+    ∙ written_is pool p k (pos head) (pos (length xs)) xs (omega arith) long
     ∙ ap (λ n. take n pool ++ record_words head xs ++ drop (n + size_for (length xs)) pool) at
 
 module _ (s : ℕ) (pool : List ℤ) (used head : ℕ) (xs : List ℤ) (room : Room (length pool) used head (length xs)) where

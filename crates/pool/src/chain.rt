@@ -1,5 +1,5 @@
 // A chain that is known to be sound, read one record after another from its head.
-ghost use Rattle.std.specs.Prelude.{◌≡◌, true, false, [], ◌∷◌, length, IfSome, Decides, MatchOption};
+ghost use Rattle.std.specs.Prelude.{◌≡◌, true, false, [], ◌∷◌, length, IfSome, Decides, MatchOption, ⊤};
 ghost use Rattle.std.specs.List.{AllByRecursion};
 ghost use Rattle.pool.specs.Records.{records, Literal, Sound};
 ghost use Rattle.pool.specs.Tests.{is_linked};
@@ -12,6 +12,7 @@ pub struct Chain<'a> {
     words: &'a [i32],
     at: usize,
     signals: usize,
+    // No Option around `at`: a sound chain that is read to its end stands at 0, as one that was not sound does.
     whole: bool,
     ghost sound: { is_linked at signals words.now (length words.now) at ≡ true },
 }
@@ -52,6 +53,7 @@ impl<'a> Chain<'a> {
     pub fn next(&mut self) -> Option<&'a [i32]>
         ensures records { MatchOption result (records self.old.words.now self.old.at ≡ []) (λ xs. records self.old.words.now self.old.at ≡ xs.now ∷ records self.new.words.now self.new.at) }
         ensures literals { IfSome result (λ xs. AllByRecursion (Literal self.old.signals) xs.now) }
+        ensures ended { MatchOption result (records self.new.words.now self.new.at ≡ []) (λ _. ⊤) }
         ensures same { (self.new.signals ≡ self.old.signals) × (self.new.whole ≡ self.old.whole) }
     {
         if self.at == 0 {

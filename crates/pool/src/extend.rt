@@ -10,7 +10,7 @@ pub struct Place {
 }
 
 // Indices and counts are words, so that none may pass this.
-const LARGEST: usize = 2_147_483_647;
+const LARGEST: usize = i32::MAX as usize;
 
 // Writes the record of the numbers, followed by the chain at head; None where there is no room.
 pub fn append(pool: &mut [i32], used: usize, head: usize, numbers: &[i32]) -> Option<Place>
@@ -19,16 +19,16 @@ pub fn append(pool: &mut [i32], used: usize, head: usize, numbers: &[i32]) -> Op
     ensures keeps { Keeps pool.old used pool.new result }
 {
     let at = used.max(1);
-    let end = pool.len().min(LARGEST);
-    if head >= at || end < 2 || at > end - 2 || numbers.len() > end - 2 - at {
+    let count = numbers.len();
+    let behind = at.saturating_add(2).saturating_add(count);
+    if head >= at || behind > pool.len().min(LARGEST) {
         return None;
     }
-    let count = numbers.len();
     pool[at] = head as i32;
     pool[at + 1] = count as i32;
-    pool[at + 2..at + 2 + count].copy_from_slice(numbers);
+    pool[at + 2..behind].copy_from_slice(numbers);
     Some(Place {
         head: at,
-        used: at + 2 + count,
+        used: behind,
     })
 }

@@ -3,6 +3,7 @@
 
 mod chain;
 mod extend;
+mod records;
 mod size;
 mod soundness;
 

@@ -25,12 +25,9 @@ pub(crate) fn next(pool: &[i32], p: usize) -> usize
 pub fn are_literals(s: usize, numbers: &[i32]) -> bool
     ensures { Decides result (AllByRecursion (Literal s) numbers.now) }
 {
-    for x in numbers {
-        if *x == 0 || x.unsigned_abs() as usize > s {
-            return false;
-        }
-    }
-    true
+    numbers
+        .iter()
+        .all(|x| *x != 0 && x.unsigned_abs() as usize <= s)
 }
 
 // Whether the record at p lies whole within the words in use.
@@ -38,18 +35,19 @@ fn is_whole(s: usize, pool: &[i32], used: usize, p: usize) -> bool
     requires { (used ≤ length pool.now) × (0 < p) }
     ensures { Decides result (Whole s pool.now used p) }
 {
-    if used < 2 || p > used - 2 {
+    let Some([next, count, rest @ ..]) = pool.get(p..used) else {
+        return false;
+    };
+    if !usize::try_from(*next).is_ok_and(|n| n < p) {
         return false;
     }
-    let next = pool[p];
-    let count = pool[p + 1];
-    if next < 0 || next as usize >= p {
+    let Ok(count) = usize::try_from(*count) else {
         return false;
-    }
-    if count < 0 || count as usize > used - 2 - p {
+    };
+    let Some(numbers) = rest.get(..count) else {
         return false;
-    }
-    are_literals(s, &pool[p + 2..p + 2 + count as usize])
+    };
+    are_literals(s, numbers)
 }
 
 // Whether the chain at head is sound for s signals.
@@ -60,6 +58,7 @@ pub(crate) fn is_sound(s: usize, pool: &[i32], used: usize, head: usize) -> bool
         return false;
     }
     let mut p = head;
+    // A while loop: the next index stands in the record's own words, 0 for none.
     while p != 0 {
         if !is_whole(s, pool, used, p) {
             return false;

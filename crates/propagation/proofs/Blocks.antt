@@ -18,11 +18,7 @@ literal_false row a x shaped named agrees false' =
     let size : nat_abs (word_of row x) ≡ nat_abs x - 1 + 1 = ⊎_elim (λ none. absurd (false'.1 none)) (λ e. e) (shaped (nat_abs x - 1) (omega arith)) in
     opposite a x (word_of row x) (omega arith) (λ e. false'.0 (sym e)) (agrees size)
 
--- a record of false numbers is false, and one that is true has its open number true
-pub clause_false : (a : ℕ → Bool) (xs : List ℤ) → ((k : ℕ) → k < length xs → literal a (get_or xs k (pos 0)) ≡ false) → clause a xs ≡ false
-clause_false a [] h = refl
-clause_false a (x ∷ xs) h = ap (λ b. b || clause a xs) (h 0 (omega arith)) ∙ clause_false a xs (λ k hk. h (suc k) (omega arith))
-
+-- a record that is true, and all false but for one number, has that number true
 pub clause_forced : (a : ℕ → Bool) (xs : List ℤ) (y : ℤ) → clause a xs ≡ true → ((k : ℕ) → k < length xs → (get_or xs k (pos 0) ≡ y) ⊎ (literal a (get_or xs k (pos 0)) ≡ false)) → literal a y ≡ true
 clause_forced a [] y e h = absurd (false≢true e)
 clause_forced a (x ∷ xs) y e h =

@@ -1,16 +1,23 @@
 -- How a row of values grows by what follows from the records, and by a branch. Assumes nothing.
-use Rattle.std.proofs.Common.{◌≡◌, ℕ, ◌+◌, ◌-◌, ◌<◌, ◌≤◌, Bool, true, false, List, length, get_or, take, set, ℤ, pos, nat_abs, sym, refl, ap, ◌∙◌, subst, inl, inr, ⊎_elim, arith}
+use Rattle.std.proofs.Common.{◌≡◌, ℕ, ◌+◌, ◌-◌, ◌<◌, ◌≤◌, Bool, true, false, List, length, get_or, take, set, ℤ, pos, nat_abs, Some, None, Option, MatchOption, IfSome, Bor, sym, refl, ap, ◌∙◌, subst, inl, inr, ⊎_elim, arith}
 use Rattle.std.specs.List.{AllByRecursion}
 use Rattle.std.proofs.ByRecursion.{All-get_or}
 use Rattle.std.proofs.lemmas.List.{length-set, get_or-set_other}
+use Rattle.std.proofs.lemmas.List.Recursion.{or_from_places}
 use Rattle.std.proofs.lemmas.Bool.{both_ways}
+use Rattle.std.specs.Bool.{⊤}
+use Rattle.std.proofs.lemmas.List.Recursion.{and_at}
+use Rattle.std.specs.List.{AllWithin, HoldsAt}
+use Rattle.pool.specs.declared.chain.Chain.{Chain}
+use Rattle.pool.specs.Chains.{records_of}
+use Rattle.pool.proofs.Tested.{literals_of}
 use Rattle.pool.specs.Records.{Literal}
 use Rattle.engine.specs.Truth.{literal, clause, chain}
 use Rattle.propagation.specs.Rows.{at, Shaped, False, Agrees, Refuted, Blocked, back}
 use Rattle.propagation.specs.Steps.{Silent, Forced, Ready, Grown, Traced}
 use Rattle.propagation.proofs.Growing.{agrees_set, agrees_unset, noted_assign, noted_trail}
 use Rattle.propagation.proofs.Heard.{holding_stays, forced_heard}
-use Rattle.propagation.proofs.Blocks.{literal_false, clause_false, clause_forced}
+use Rattle.propagation.proofs.Blocks.{literal_false, clause_forced}
 
 pub grown_start : (s : ℕ) (cs : List (List ℤ)) (row : List ℤ) (trail : List ℕ) (mark : ℕ) (marks : List Bool) → Ready s row trail mark marks → Grown cs row trail mark row trail mark
 grown_start s cs row trail mark marks ready =
@@ -67,7 +74,7 @@ pub blocked_fails : (cs : List (List ℤ)) (marks : List Bool) (row xs : List �
     → ((k : ℕ) → k < length xs → get_or marks (nat_abs (get_or xs k (pos 0)) - 1) false ≡ true) → ((k : ℕ) → k < length xs → False row (get_or xs k (pos 0)))
     → ((a : ℕ → Bool) → chain a cs ≡ true → clause a xs ≡ true) → Blocked cs marks row
 blocked_fails cs marks row xs shaped literals marked fails member a meets agrees =
-    let no' = clause_false a xs
+    let no' = or_from_places (clause a) (literal a) refl (λ _ _. refl) xs (pos 0)
     (λ k h.
     let named = All-get_or (Literal (length row)) xs k (pos 0) h literals in
     let low = named.0 in
@@ -94,3 +101,17 @@ pub grown_trail : (cs : List (List ℤ)) (row₀ : List ℤ) (trail₀ : List �
     → Grown cs row₀ trail₀ mark row trail top → take top trail' ≡ take top trail → Grown cs row₀ trail₀ mark row trail' top
 grown_trail cs row₀ trail₀ mark row trail trail' top grown e =
     record { noted = noted_trail row₀ trail₀ mark row trail trail' top grown.noted e; follows = grown.follows; extends = grown.extends; long = grown.long; stays = grown.stays; steady = grown.steady }
+
+-- a record of the chain that `find` found
+pub reason_from : (c : Chain) (row : List ℤ) (x : ℤ) (r : Option (Bor (List ℤ))) → c.signals ≡ length row
+    → MatchOption r (AllWithin (λ xs. ⊤) (records_of c) 0 (length (records_of c)))
+    (λ y. Forced row y.now x × (i : ℕ) × (i < length (records_of c)) × HoldsAt (λ xs. xs ≡ y.now) (records_of c) i × AllWithin (λ xs. ⊤) (records_of c) 0 i)
+    → IfSome r (λ y. AllByRecursion (Literal (length row)) y.now × Forced row y.now x × ((a : ℕ → Bool) → chain a (records_of c) ≡ true → clause a y.now ≡ true))
+reason_from c row x None signalled found = tt
+reason_from c row x (Some y) signalled found =
+    let i = found.1 in
+    let is : get_or (records_of c) i y.now ≡ y.now = found.3 y.now in (
+      rw signalled at (subst (AllByRecursion (Literal c.signals)) is (literals_of c i y.now found.2)),
+      found.0,
+      (λ a meets. subst (λ xs. clause a xs ≡ true) is (and_at (chain a) (clause a) refl (λ _ _. refl) (records_of c) i y.now found.2 meets)),
+    )

@@ -28,24 +28,15 @@ fn forces(values: &[i32], numbers: &[i32], x: i32) -> bool
     requires { AllByRecursion (Literal (length values.now)) numbers.now }
     ensures { result ≡ true → Forced values.now numbers.now x }
 {
-    match weigh(values, numbers) {
-        Status::Forces(y) => y == x,
-        _ => false,
-    }
+    weigh(values, numbers) == Status::Forces(x)
 }
 
 // A record that hangs on x alone.
-fn reason<'a>(chain: Chain<'a>, values: &[i32], x: i32) -> Option<&'a [i32]>
+fn reason<'a>(mut chain: Chain<'a>, values: &[i32], x: i32) -> Option<&'a [i32]>
     requires { signals_of chain ≡ length values.now }
     ensures { IfSome result (λ xs. AllByRecursion (Literal (length values.now)) xs.now × Forced values.now xs.now x × ((a : ℕ → Bool) → all_true a (records_of chain.entry) ≡ true → clause a xs.now ≡ true)) }
 {
-    let mut rest = chain;
-    while let Some(numbers) = rest.next() {
-        if forces(values, numbers, x) {
-            return Some(numbers);
-        }
-    }
-    None
+    chain.find(|numbers| forces(values, numbers, x))
 }
 
 // Opens again the signals of the trail from `mark` to `top`, and leaves marks under which the rest still clashes.
@@ -61,9 +52,7 @@ pub fn explain(
     ensures row { values.new ≡ back (top - mark) trail.now mark values.old }
     ensures blocked { Blocked (records_of chain.entry) marks.new values.new }
 {
-    let mut t = top;
-    while t > mark {
-        t -= 1;
+    for t in (mark..top).rev() {
         let i = trail[t];
         let x = values[i];
         values[i] = 0;

@@ -6,7 +6,7 @@ ghost use Rattle.propagation.specs.Rows.{word_of};
 ghost use Rattle.propagation.specs.Steps.{Weighed};
 
 // One number is true, all are false, all but one open one are false, or none of these.
-#[derive(Clone, Copy)]
+#[derive(Clone, Copy, PartialEq, Eq)]
 pub enum Status {
     Holds,
     Fails,
@@ -35,22 +35,18 @@ pub fn weigh(values: &[i32], numbers: &[i32]) -> Status
     requires { AllByRecursion (Literal (length values.now)) numbers.now }
     ensures { Weighed values.now numbers.now result }
 {
-    let mut open = 0;
+    let mut open = None;
     for x in numbers {
         let value = value_of(values, *x);
         if value == *x {
             return Status::Holds;
         }
         if value == 0 {
-            if open != 0 {
+            if open.is_some() {
                 return Status::Open;
             }
-            open = *x;
+            open = Some(*x);
         }
     }
-    if open == 0 {
-        Status::Fails
-    } else {
-        Status::Forces(open)
-    }
+    open.map_or(Status::Fails, Status::Forces)
 }

@@ -9,6 +9,7 @@ use crate::status::{Status, place_of, weigh};
 use pool::Chain;
 
 // Makes a number true, and notes its place on the trail.
+// Row, trail and marks come apart: the row is a part of the engine's memory that its caller reads after the search.
 pub fn assign(values: &mut [i32], trail: &mut [usize], top: usize, x: i32)
     requires { (Literal (length values.old) x) × (top < length trail.old) }
     ensures row { values.new ≡ slice_set values.old (unsigned_abs x - 1) x }
@@ -34,6 +35,7 @@ pub fn propagate(
     'rounds: loop {
         let before = top;
         let mut rest = chain;
+        // No `for`: only Chain's own `next` says that the numbers name signals.
         'records: while let Some(numbers) = rest.next() {
             match weigh(values, numbers) {
                 Status::Fails => {
@@ -46,8 +48,7 @@ pub fn propagate(
                     assign(values, trail, top, x);
                     top += 1;
                 }
-                Status::Holds => {}
-                Status::Open => {}
+                Status::Holds | Status::Open => {}
             }
         }
         if top == before {

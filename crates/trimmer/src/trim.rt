@@ -5,50 +5,42 @@ ghost use Rattle.engine.specs.Asking.{asked};
 ghost use Rattle.engine.specs.Meaning.{clauses, Proper, Clash, Part, Answered};
 ghost use Rattle.trimmer.specs.Trim.{assuming, without, Needed, Trimmed};
 
-use engine::{Answer, Engine, Question, Refusal, copy_front};
+use engine::{
+    Answer, Engine, MAX_SIGNALS, Question, Refusal, admit_size, copy_front, largest_above,
+};
 
-// A layer takes at most so many signals.
-const MOST: usize = 1280;
-
-// Copies the first n of the named assumptions but for the one at i.
-fn leave_out(named: &[i32], n: usize, i: usize, trial: &mut [i32])
-    requires { (i < n) × ((n ≤ length named.now) × (n ≤ length trial.old)) }
-    ensures { take (n - 1) trial.new ≡ without (take n named.now) i }
+// Copies the named assumptions but for the one at i.
+fn leave_out(named: &[i32], i: usize, trial: &mut [i32])
+    requires { (i < length named.now) × (length named.now ≤ length trial.old) }
+    ensures { take (length named.now - 1) trial.new ≡ without named.now i }
 {
-    trial[0..i].copy_from_slice(&named[0..i]);
-    trial[i..n - 1].copy_from_slice(&named[i + 1..n]);
+    trial[..i].copy_from_slice(&named[..i]);
+    trial[i..named.len() - 1].copy_from_slice(&named[i + 1..]);
 }
 
-// Whether the engine below says no to the question with the first n words of a trial as assumptions.
+// Whether the engine below says no to the question with the words of a trial as assumptions.
 fn clashes<'a, E: Engine>(
     below: &mut E,
     question: Question<'a>,
     trial: &'a [i32],
-    n: usize,
     answer: &mut [i32],
 ) -> bool
-    requires { (question.signals ≤ E.Engine.most) × ((question.signals ≤ length answer.old) × ((n ≤ length trial.now) × (Proper (assuming (asked question) (take n trial.now))))) }
-    ensures { Decides result (Clash (clauses (asked question.entry)) (take n trial.now)) }
+    requires { (question.signals ≤ E.Engine.most) × ((question.signals ≤ length answer.old) × (Proper (assuming (asked question) trial.now))) }
+    ensures { Decides result (Clash (clauses (asked question.entry)) trial.now) }
 {
     let tried = Question {
-        assumptions: &trial[0..n],
+        assumptions: trial,
         ..question
     };
-    match below.ask(tried, answer) {
-        Ok(found) => match found {
-            Answer::Yes => false,
-            Answer::No(_) => true,
-        },
-        Err(_) => false,
-    }
+    matches!(below.ask(tried, answer), Ok(Answer::No(_)))
 }
 
 #[derive(Drop)]
 pub struct Trimmer<E> {
     below: E,
-    named: [i32; 1280],
-    trial: [i32; 1280],
-    answer: [i32; 1280],
+    named: [i32; MAX_SIGNALS],
+    trial: [i32; MAX_SIGNALS],
+    answer: [i32; MAX_SIGNALS],
 }
 
 impl<E: Engine> Trimmer<E> {
@@ -57,9 +49,9 @@ impl<E: Engine> Trimmer<E> {
     {
         Trimmer {
             below,
-            named: [0; 1280],
-            trial: [0; 1280],
-            answer: [0; 1280],
+            named: [0; MAX_SIGNALS],
+            trial: [0; MAX_SIGNALS],
+            answer: [0; MAX_SIGNALS],
         }
     }
 
@@ -74,14 +66,14 @@ impl<E: Engine> Trimmer<E> {
     {
         let mut n = count;
         let mut i = 0;
+        // A while loop: the list gets shorter as it is gone through.
         while i < n {
-            leave_out(&self.named, n, i, &mut self.trial);
+            leave_out(&self.named[..n], i, &mut self.trial);
             let less = n - 1;
             if clashes(
                 &mut self.below,
                 question,
-                &self.trial,
-                less,
+                &self.trial[..less],
                 &mut self.answer,
             ) {
                 copy_front(&self.trial, less, &mut self.named);
@@ -98,19 +90,14 @@ impl<E: Engine> Engine for Trimmer<E> {
     ghost most = { min 1280 E.Engine.most };
 
     fn largest() -> usize {
-        E::largest().min(MOST)
+        largest_above::<E>()
     }
 
     fn ask(&mut self, question: Question, out: &mut [i32]) -> Result<Answer, Refusal>
         ensures answered { Answered (min 1280 E.Engine.most) (asked question.entry) out.old out.new result }
         ensures trimmed { Trimmed (asked question.entry) out.new result }
     {
-        if question.signals > Self::largest() {
-            return Err(Refusal::TooManySignals);
-        }
-        if out.len() < question.signals {
-            return Err(Refusal::ShortSlice);
-        }
+        admit_size(Self::largest(), question, out.len())?;
         match self.below.ask(question, &mut self.answer)? {
             Answer::Yes => {
                 copy_front(&self.answer, question.signals, out);

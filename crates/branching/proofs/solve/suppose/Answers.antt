@@ -2,13 +2,14 @@ use Rattle.std.proofs.Common.{◌≡◌, ℕ, ◌-◌, ◌≤◌, Bool, true, le
 use Rattle.std.proofs.ByRecursion.{All-get_or}
 use Rattle.std.proofs.lemmas.Int.{to_z-of_z}
 use Rattle.std.proofs.lemmas.List.{length-set, get_or-set_same}
+use Rattle.std.proofs.lemmas.List.Recursion.{and_from_places}
 use Rattle.pool.specs.Records.{Literal}
-use Rattle.engine.specs.Truth.{each}
+use Rattle.engine.specs.Truth.{literal, each}
 use Rattle.propagation.specs.Rows.{at, word_of, opens}
 use Rattle.branching.specs.Search.{used}
 use Rattle.propagation.proofs.Signs.{same_from_bits, abs_from_bits, bits_from_abs}
 use Rattle.propagation.proofs.Growing.{shaped_set, opens_set, opens_pos, agrees_unset}
-use Rattle.branching.proofs.Supposing.{opens_zeros, zeros_at, agrees_true, each-from_at, source_set, source_more, apart_used}
+use Rattle.branching.proofs.Supposing.{opens_zeros, zeros_at, agrees_true, source_set, source_more, apart_used}
 use Rattle.branching.proofs.solve.suppose.Goals as goal
 use Rattle.branching.proofs.solve.suppose.Goals.{then-value-eq0, else-value-eq0+else-value-x}
 
@@ -22,12 +23,6 @@ loop-x-init c =
       (λ i h e. let z = zeros i h in absurd (omega arith)),
       (λ a agrees k h. absurd (omega arith)),
     )
-
-pub value_of-value-requires : goal.value_of-value-requires
-value_of-value-requires c =
-    let fits : SFits w32 (get_or c.args.assumptions.now c.loop-x.x-index (pos 0)) = search rules in
-    let named = All-get_or (Literal (length c.args.values.now)) c.args.assumptions.now c.loop-x.x-index (pos 0) c.loop-x-test.true c.requires.0 in
-    simp to_z-of_z (named.0, omega (arith, named.1))
 
 pub assign-requires : goal.assign-requires
 assign-requires c =
@@ -43,21 +38,6 @@ assign-requires c =
     let some = opens_pos row (nat_abs x - 1) (omega arith) open' in
     let counted = c.loop-x.invariant.1 in
     simp to_z-of_z ((low, omega arith), omega arith)
-
-pub place_of-requires : goal.place_of-requires
-place_of-requires c =
-    let fits : SFits w32 (get_or c.args.assumptions.now c.loop-x.x-index (pos 0)) = search rules in
-    simp to_z-of_z (All-get_or (Literal (length c.args.values.now)) c.args.assumptions.now c.loop-x.x-index (pos 0) c.loop-x-test.true c.requires.0).0
-
-pub bounds-marks-place_of : goal.bounds-marks-place_of
-bounds-marks-place_of c =
-    let x = get_or c.args.assumptions.now c.loop-x.x-index (pos 0) in
-    let fits : SFits w32 (get_or c.args.assumptions.now c.loop-x.x-index (pos 0)) = search rules in
-    let named = All-get_or (Literal (length c.args.values.now)) c.args.assumptions.now c.loop-x.x-index (pos 0) c.loop-x-test.true c.requires.0 in
-    let low = named.0 in
-    let high = named.1 in
-    let is : c.place_of.result ≡ nat_abs x - 1 = simp to_z-of_z at c.place_of.ensures in
-    omega arith
 
 pub returns-then-value-x : goal.returns-then-value-x
 returns-then-value-x c =
@@ -124,5 +104,5 @@ returns c =
       c.loop-x.invariant.0,
       c.loop-x.invariant.1,
       (λ i h e. let from = c.loop-x.invariant.2 i h e in let below = from.1 in (from.0, omega arith, from.2)),
-      (λ a agrees. each-from_at a xs (λ k h. c.loop-x.invariant.3 a agrees k (omega arith))),
+      (λ a agrees. and_from_places (each a) (literal a) refl (λ _ _. refl) xs (pos 0) (λ k h. c.loop-x.invariant.3 a agrees k (omega arith))),
     )

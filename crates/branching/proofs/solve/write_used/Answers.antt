@@ -1,27 +1,10 @@
 use Rattle.std.proofs.Common.{◌≡◌, ◌+◌, ◌-◌, true, false, ◌++◌, length, get_or, take, drop, set, pos, nat_abs, sym, ap, ◌∙◌, arith, w32, SFits, rules}
-use Rattle.std.proofs.ByRecursion.{All-get_or}
-use Rattle.std.proofs.lemmas.List.{length_push, take_all}
+use Rattle.std.proofs.lemmas.List.{length_push}
 use Rattle.std.proofs.lemmas.Int.{to_z-of_z}
-use Rattle.pool.specs.Records.{Literal}
 use Rattle.branching.specs.Search.{used}
 use Rattle.branching.proofs.Uses.{used_skip, used_take, push_word}
 use Rattle.branching.proofs.solve.write_used.Goals as goal
 use Rattle.branching.proofs.solve.write_used.Goals.{then-marks-place_of, else-marks-place_of}
-
-pub place_of-requires : goal.place_of-requires
-place_of-requires c =
-    let fits : SFits w32 (get_or c.args.assumptions.now c.loop-x.x-index (pos 0)) = search rules in
-    simp to_z-of_z (All-get_or (Literal (length c.args.marks.now)) c.args.assumptions.now c.loop-x.x-index (pos 0) c.loop-x-test.true c.requires.0).0
-
-pub bounds-marks-place_of : goal.bounds-marks-place_of
-bounds-marks-place_of c =
-    let x = get_or c.args.assumptions.now c.loop-x.x-index (pos 0) in
-    let fits : SFits w32 (get_or c.args.assumptions.now c.loop-x.x-index (pos 0)) = search rules in
-    let named = All-get_or (Literal (length c.args.marks.now)) c.args.assumptions.now c.loop-x.x-index (pos 0) c.loop-x-test.true c.requires.0 in
-    let low = named.0 in
-    let high = named.1 in
-    let is : c.place_of.result ≡ nat_abs x - 1 = simp to_z-of_z at c.place_of.ensures in
-    omega arith
 
 pub loop-x-preserved : goal.loop-x-preserved
 loop-x-preserved c =
@@ -52,10 +35,3 @@ loop-x-preserved c =
           let first = inv.0 in
           (omega arith, omega arith, w.out-is ∙ inv.2 ∙ ap (λ l. l ++ drop n c.args.out.now) (sym same) ∙ ap (λ k. used marks (take (i + 1) xs) ++ drop k c.args.out.now) (sym n'))
     ]
-
-pub returns : goal.returns
-returns c =
-    let marks = c.args.marks.now in
-    let xs = c.args.assumptions.now in
-    let all = ap (used marks) (take_all c.loop-x.x-index xs c.loop-x-test.false) in
-    record { count = c.loop-x.invariant.0 ∙ ap length all; words = c.loop-x.invariant.2 ∙ ap (λ l. l ++ drop c.loop-x.n c.args.out.now) all }

@@ -1,4 +1,4 @@
-use Rattle.std.proofs.Common.{◌≡◌, ◌+◌, ◌≤◌, length, arith, rules}
+use Rattle.std.proofs.Common.{◌≡◌, ◌+◌, length, arith, rules}
 use Rattle.pool.specs.Layout.{size_for, place_after}
 use Rattle.pool.specs.Append.{Room}
 use Rattle.pool.proofs.Written.{words_written, grows_from, keeps_from}
@@ -11,11 +11,9 @@ returns c =
     let used = c.args.used in
     let head = c.args.head in
     let at : c.max-at.result ≡ place_after used = search rules in
-    let end : c.min-end.result ≤ length pool = search rules in
-    let end' : c.min-end.result ≤ 2147483647 = search rules in
-    let room : Room (length pool) used head (length xs) = record { below = omega arith; within = omega arith; indexed = omega arith } in
-    let ends : c.max-at.result + 2 + length xs ≡ place_after used + size_for (length xs) = omega arith in
-    let same = words_written pool used head c.max-at.result xs c.copy_from_slice.new.self at room c.copy_from_slice.ensures.after in
+    let ends : c.saturating_add-behind.result ≡ place_after used + size_for (length xs) = search rules in
+    let room : Room (length pool) used head (length xs) = search rules in
+    let same = words_written pool used head c.max-at.result _ xs c.copy_from_slice.new.self at (omega arith) room c.copy_from_slice.ensures.after in
     record {
       written = (room, same, at, ends);
       grows = λ s sound named. grows_from s pool used head xs room _ _ _ same at ends sound named;

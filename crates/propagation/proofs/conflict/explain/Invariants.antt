@@ -9,6 +9,3 @@ invariant-loop-t l =
     (l.mark ≤ l.t) × (l.t ≤ l.top) × Shaped l.values
     × (back (l.t - l.mark) l.trail l.mark l.values ≡ back (l.top - l.mark) l.trail l.mark l.initial.values)
     × (Blocked (records_of l.chain) l.marks l.values ⊎ ((k : ℕ) → k < length l.values → get_or l.marks k false ≡ true))
-
-abbrev pub decreases-loop-t : goal.decreases-loop-t
-decreases-loop-t l = l.t - l.mark

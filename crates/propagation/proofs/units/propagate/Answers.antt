@@ -1,24 +1,15 @@
-use Rattle.std.proofs.Common.{◌≡◌, ℕ, ◌+◌, ◌-◌, ◌<◌, ◌≤◌, Bool, true, List, length, set, ℤ, nat_abs, sym, ap, ◌∙◌, subst, inl, inr, arith, w32, SFits, rules}
+use Rattle.std.proofs.Common.{◌≡◌, ℕ, ◌-◌, ◌<◌, ◌≤◌, Bool, true, List, length, set, ℤ, nat_abs, sym, ap, ◌∙◌, subst, inl, inr, ⊎_elim, arith, w32, SFits, rules}
 use Rattle.std.specs.List.{AllByRecursion}
-use Rattle.std.proofs.ByRecursion.{All-weaker}
 use Rattle.std.proofs.lemmas.List.{length-set}
 use Rattle.std.proofs.lemmas.Int.{to_z-of_z}
 use Rattle.pool.specs.Records.{Literal}
 use Rattle.pool.specs.Chains.{records_of}
 use Rattle.engine.specs.Truth.{clause, chain}
 use Rattle.engine.proofs.Truths.{chain_parts}
-use Rattle.propagation.specs.Rows.{Blocked}
-use Rattle.propagation.specs.Steps.{Alive, Silent}
+use Rattle.propagation.specs.Steps.{Alive, Silent, Weighed}
 use Rattle.propagation.proofs.Growing.{opens_pos}
 use Rattle.propagation.proofs.Growth.{grown_forced, blocked_fails, traced_from}
 use Rattle.propagation.proofs.units.propagate.Goals as goal
-
-pub mark_signals-requires : goal.mark_signals-requires
-mark_signals-requires c =
-    let space = c.requires.space in
-    let same = c.records.invariant.2 in
-    let long : length c.records.values ≤ length c.fill.new.self = search rules in
-    All-weaker (Literal c.records.rest.signals) (Literal (length c.fill.new.self)) (λ x h. let high = h.1 in (h.0, omega arith)) c.in-Some.numbers.now c.in-Some.ensures.literals
 
 pub explain-requires : goal.explain-requires
 explain-requires c =
@@ -38,12 +29,6 @@ explain-requires c =
     let wide : length row ≤ length c.mark_signals.new.marks = search rules in
     traced_from c.args.chain.signals cs c.args.values.now c.args.trail.now c.args.mark row c.records.trail c.records.top c.mark_signals.new.marks (omega arith) wide (omega arith) grown blocked
 
-pub returns-in-Fails : goal.returns-in-Fails
-returns-in-Fails c =
-    let grown = c.records.invariant.0 _ _ c.rounds.invariant in
-    let same = c.explain.ensures.row ∙ grown.noted.undone in
-    record { same = same; kept = grown.noted.kept; blocked = subst (Blocked (records_of c.args.chain) c.explain.new.marks) same c.explain.ensures.blocked }
-
 pub assign-requires : goal.assign-requires
 assign-requires c =
     let fits : SFits w32 c.in-Forces.x = search rules in
@@ -55,17 +40,6 @@ assign-requires c =
     let some = opens_pos c.records.values (nat_abs c.in-Forces.x - 1) (omega arith) forced.unset in
     let room = c.requires.room in
     simp to_z-of_z ((low, high), omega arith)
-
-pub overflow_add-top : goal.overflow_add-top
-overflow_add-top c =
-    let forced = c.in-Forces.ensures in
-    let low = forced.named.0 in
-    let high = forced.named.1 in
-    let noted = (c.records.invariant.0 _ _ c.rounds.invariant).noted in
-    let counted = noted.counted in
-    let some = opens_pos c.records.values (nat_abs c.in-Forces.x - 1) (omega arith) forced.unset in
-    let below : c.records.top + 1 ≤ length c.args.values.now = omega arith in
-    search rules
 
 pub records-preserved-in-Forces : goal.records-preserved-in-Forces
 records-preserved-in-Forces c =
@@ -101,46 +75,17 @@ records-preserved-in-Forces c =
       (λ r j all. (silent r j all).1),
     )
 
-pub records-preserved-in-Holds : goal.records-preserved-in-Holds
-records-preserved-in-Holds c =
-    let row = c.records.values in
-    let xs = c.in-Some.numbers.now in
-    let is = c.in-Some.ensures.records in
-    let silent = λ (r : List ℤ) (j : ℕ) (all : AllByRecursion (Silent r j) (records_of c.args.chain)). subst (AllByRecursion (Silent r j)) is (c.records.invariant.5 r j all) in (
-      c.records.invariant.0,
-      c.records.invariant.1,
-      c.in-Some.ensures.same.0 ∙ c.records.invariant.2,
-      (λ a meets. (chain_parts a (records_of c.records.rest) xs (records_of c.next.new.self) is (c.records.invariant.3 a meets)).1),
-      (λ e all. c.records.invariant.4 e (subst (AllByRecursion (Alive row)) (sym is) (inl c.in-Holds.ensures, all))),
-      (λ r j all. (silent r j all).1),
-    )
-
 pub records-preserved : goal.records-preserved
 records-preserved c =
     let row = c.records.values in
     let xs = c.in-Some.numbers.now in
     let is = c.in-Some.ensures.records in
-    let silent = λ (r : List ℤ) (j : ℕ) (all : AllByRecursion (Silent r j) (records_of c.args.chain)). subst (AllByRecursion (Silent r j)) is (c.records.invariant.5 r j all) in (
+    let silent = λ (r : List ℤ) (j : ℕ) (all : AllByRecursion (Silent r j) (records_of c.args.chain)). subst (AllByRecursion (Silent r j)) is (c.records.invariant.5 r j all) in
+    let alive : Alive row xs = ⊎_elim (λ is. inl (subst (Weighed row xs) is c.weigh.ensures)) (λ is. inr (subst (Weighed row xs) is c.weigh.ensures)) c.in-Holds.is in (
       c.records.invariant.0,
       c.records.invariant.1,
       c.in-Some.ensures.same.0 ∙ c.records.invariant.2,
       (λ a meets. (chain_parts a (records_of c.records.rest) xs (records_of c.next.new.self) is (c.records.invariant.3 a meets)).1),
-      (λ e all. c.records.invariant.4 e (subst (AllByRecursion (Alive row)) (sym is) (inr c.in-Open.ensures, all))),
+      (λ e all. c.records.invariant.4 e (subst (AllByRecursion (Alive row)) (sym is) (alive, all))),
       (λ r j all. (silent r j all).1),
     )
-
-pub returns-then-top-before : goal.returns-then-top-before
-returns-then-top-before c = (
-  c.records.invariant.0 _ _ c.rounds.invariant,
-  c.records.invariant.4 c.if-top-before.true (subst (AllByRecursion (Alive c.records.values)) (sym c.in_default.ensures.records) tt),
-)
-
-pub rounds-smaller : goal.rounds-smaller
-rounds-smaller c =
-    let noted = (c.records.invariant.0 _ _ c.rounds.invariant).noted in
-    let counted = noted.counted in
-    let later = c.records.invariant.1 in
-    omega arith
-
-pub rounds-preserved : goal.rounds-preserved
-rounds-preserved c = c.records.invariant.0 _ _ c.rounds.invariant

@@ -1,4 +1,4 @@
-use Rattle.std.proofs.Common.{◌≡◌, ◌-◌, take, refl, subst, arith}
+use Rattle.std.proofs.Common.{refl, subst}
 use Rattle.engine.specs.declared.question.Answer.TheVariants.{No}
 use Rattle.engine.specs.Asking.{asked}
 use Rattle.engine.specs.Meaning.{Given, clauses}
@@ -6,10 +6,9 @@ use Rattle.engine.proofs.Parts.{clash_more}
 use Rattle.trimmer.specs.Trim.{assuming}
 use Rattle.trimmer.proofs.trim.clashes.Goals as goal
 
-pub returns-in-No : goal.returns-in-No
-returns-in-No g c =
-    let q = assuming (asked c.args.question) (take c.args.n c.args.trial.now) in
-    let all : c.args.n - 0 ≡ c.args.n = omega arith in
-    let given : Given q c.args.answer.now c.ask.new.out (No c.in-No.field-0) =
-    subst (Given q c.args.answer.now c.ask.new.out) c.in-No.is (rw all at c.in-Ok.ensures.1) in
+pub returns-in-Ok-No : goal.returns-in-Ok-No
+returns-in-Ok-No g c =
+    let q = assuming (asked c.args.question) c.args.trial.now in
+    let given : Given q c.args.answer.now c.ask.new.out (No c.in-Ok-No.field-0-0) =
+    subst (Given q c.args.answer.now c.ask.new.out) c.in-Ok-No.field-0-is c.in-Ok-No.ensures.1 in
     (λ e. clash_more (clauses q) given.2 given.3, λ e. refl)

@@ -2,7 +2,7 @@ use Rattle.std.proofs.Common.{◌≡◌, ◌++◌, length, drop, Some, None, ref
 use Rattle.std.proofs.lemmas.List.{take_all}
 use Rattle.pool.specs.Chains.{records_of}
 use Rattle.engine.specs.Asking.{asked}
-use Rattle.engine.specs.Meaning.{clauses}
+use Rattle.engine.specs.Meaning.{clauses, Taken}
 use Rattle.engine.specs.Count.{Least, numbered}
 use Rattle.engine.proofs.Agree.{clauses_literals}
 use Rattle.engine.proofs.Counts.{clash_from_none, first_from_some, least_same}
@@ -12,7 +12,7 @@ use Rattle.engine.proofs.counting.CountingEngine.ask.Goals as goal
 pub returns-in-Some : goal.returns-in-Some
 returns-in-Some c =
     let q = asked c.args.question in
-    let taken = c.in_ok-admit.ensures in
+    let taken : Taken 24 q (length c.args.out.now) = rw c.largest.ensures at c.in_ok-admit.ensures in
     let same : records_of c.new-chain.result ≡ clauses q = c.new-chain.ensures.records (c.new-chain.ensures.sound.1 taken.proper.sound) in
     let least : Least q.signals (clauses q) q.assumed (Some c.in-Some.n) = least_same _ _ _ _ q.assumed (Some c.in-Some.n) c.new-chain.ensures.signals same c.in-Some.ensures in
     let a = numbered q.signals c.in-Some.n in
@@ -25,7 +25,7 @@ returns-in-Some c =
 pub returns-in-None : goal.returns-in-None
 returns-in-None c =
     let q = asked c.args.question in
-    let taken = c.in_ok-admit.ensures in
+    let taken : Taken 24 q (length c.args.out.now) = rw c.largest.ensures at c.in_ok-admit.ensures in
     let same : records_of c.new-chain.result ≡ clauses q = c.new-chain.ensures.records (c.new-chain.ensures.sound.1 taken.proper.sound) in
     let least : Least q.signals (clauses q) q.assumed None = least_same _ _ _ _ q.assumed None c.new-chain.ensures.signals same c.in-None.ensures in
     let xs = q.assumed in

@@ -1,4 +1,4 @@
-use Rattle.std.proofs.Common.{◌≡◌, ◌-◌, ◌≤◌, length, take, refl, ap, ◌∙◌, arith, rules, below_more}
+use Rattle.std.proofs.Common.{◌≡◌, ◌-◌, ◌≤◌, length, take, sym, refl, ap, ◌∙◌, arith, rules, below_more}
 use Rattle.std.proofs.lemmas.List.{length-take-le, take_at}
 use Rattle.std.proofs.lemmas.Bool.{false≢true}
 use Rattle.engine.specs.Asking.{asked}
@@ -16,21 +16,22 @@ pub clashes-requires : goal.clashes-requires
 clashes-requires g c =
     let q = asked c.args.question in
     let left = take c.loop-i.n c.loop-i.self.named in
+    let cut : take (c.loop-i.n - 1) c.leave_out.new.trial ≡ without left c.loop-i.i = ap (λ k. take (k - 1) c.leave_out.new.trial) (sym (length-take-le c.loop-i.n c.loop-i.self.named (search rules))) ∙ c.leave_out.ensures in
     let fewer : Part (without left c.loop-i.i) (take c.args.count c.args.self.now.named) = part_trans (part_without left c.loop-i.i) c.loop-i.invariant.2 in
     let proper = proper_part q (without left c.loop-i.i) (take c.args.count c.args.self.now.named) c.requires.1.1.1.0 fewer in
-    let room : c.loop-i.n - 1 ≤ length c.leave_out.new.trial = search rules in
-    (c.requires.0, (omega arith, (room, rw c.leave_out.ensures proper)))
+    (c.requires.0, (omega arith, rw cut proper))
 
 -- one is dropped
 pub loop-i-preserved-then-clashes : goal.loop-i-preserved-then-clashes
 loop-i-preserved-then-clashes g c =
     let left = take c.loop-i.n c.loop-i.self.named in
+    let cut : take (c.loop-i.n - 1) c.leave_out.new.trial ≡ without left c.loop-i.i = ap (λ k. take (k - 1) c.leave_out.new.trial) (sym (length-take-le c.loop-i.n c.loop-i.self.named (search rules))) ∙ c.leave_out.ensures in
     let q = clauses (asked c.args.question) in
     let less = c.loop-i.n - 1 in
     let room : less ≤ length c.leave_out.new.trial = search rules in
     let is : take less c.copy_front.new.to ≡ without left c.loop-i.i =
-    ap (take less) c.copy_front.ensures ∙ take_at (take less c.leave_out.new.trial) _ less (length-take-le less c.leave_out.new.trial room) ∙ c.leave_out.ensures in
-    let clash : Clash q (without left c.loop-i.i) = rw c.leave_out.ensures at (c.if-clashes.ensures.0 refl) in
+    ap (take less) c.copy_front.ensures ∙ take_at (take less c.leave_out.new.trial) _ less (length-take-le less c.leave_out.new.trial room) ∙ cut in
+    let clash : Clash q (without left c.loop-i.i) = rw cut at (c.if-clashes.ensures.0 refl) in
     rw is (
       omega arith,
       omega arith,
@@ -46,9 +47,10 @@ loop-i-preserved-then-clashes g c =
 pub loop-i-preserved : goal.loop-i-preserved
 loop-i-preserved g c =
     let left = take c.loop-i.n c.loop-i.self.named in
+    let cut : take (c.loop-i.n - 1) c.leave_out.new.trial ≡ without left c.loop-i.i = ap (λ k. take (k - 1) c.leave_out.new.trial) (sym (length-take-le c.loop-i.n c.loop-i.self.named (search rules))) ∙ c.leave_out.ensures in
     let q = clauses (asked c.args.question) in
     let need' : Clash q (without left c.loop-i.i) → ⊥ =
-    λ clash. false≢true (c.if-clashes.ensures.1 (rw c.leave_out.ensures clash)) in (
+    λ clash. false≢true (c.if-clashes.ensures.1 (rw cut clash)) in (
       omega arith,
       c.loop-i.invariant.1,
       c.loop-i.invariant.2,
@@ -58,8 +60,3 @@ loop-i-preserved g c =
       search rules,
       search rules,
     )
-
-pub returns : goal.returns
-returns g c =
-    let all : c.loop-i.n ≡ c.loop-i.i = omega arith in
-    record { fewer = c.loop-i.invariant.1; part = c.loop-i.invariant.2; clash = c.loop-i.invariant.3; needed = λ k h. c.loop-i.invariant.4 k (omega arith) }
