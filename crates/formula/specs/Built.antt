@@ -3,10 +3,14 @@ use Rattle.std.specs.Prelude.{ℕ, ◌+◌, ◌-◌, Bool, cond, not, ◌&&◌, 
 use Rattle.formula.specs.declared.side.Side.{Side}
 use Rattle.formula.specs.declared.side.Side.TheVariants.{Ours}
 use Rattle.formula.specs.declared.parts.Parts.{Parts}
+use Rattle.formula.specs.declared.faults.LevelFault.{LevelFault}
+use Rattle.formula.specs.declared.faults.LevelFault.TheVariants.{MayNotFollow}
 use Rattle.formula.specs.declared.faults.BindFault.{BindFault}
 use Rattle.formula.specs.declared.faults.BindFault.TheVariants.{NoVariable, BoundTwice}
 use Rattle.formula.specs.declared.faults.LiteralFault.{LiteralFault}
 use Rattle.formula.specs.declared.faults.LiteralFault.TheVariants.{OutOfRange, Unbound, TooMany}
+use Rattle.formula.specs.declared.faults.ClauseFault.{ClauseFault}
+use Rattle.formula.specs.declared.faults.ClauseFault.TheVariants.{TooMany as TooManyClauses}
 use Rattle.formula.specs.Lists.{each, below}
 use Rattle.formula.specs.Found.{variables_of}
 use Rattle.formula.specs.Sides.{side_at, same_side}
@@ -60,6 +64,9 @@ may_start σ b = b.levels == 0 || nat_lt b.levels 32 && not (same_side σ (side_
 abbrev pub started : Side → Built → Built
 started σ b = record { variables = b.variables; first = cond (b.levels == 0) σ b.first; levels = b.levels + 1; bound = b.bound; clauses = b.clauses; pending = b.pending; literals = b.literals }
 
+abbrev pub starting : Side → Built → Result Built LevelFault
+starting σ b = cond (may_start σ b) (Ok (started σ b)) (Err MayNotFollow)
+
 -- the variable v bound at the present level
 abbrev pub bind_to : ℕ → Built → Built
 bind_to v b = record { variables = b.variables; first = b.first; levels = b.levels; bound = slice_set b.bound v b.levels; clauses = b.clauses; pending = b.pending; literals = b.literals }
@@ -82,6 +89,10 @@ adding l b =
 -- the clause is whole
 abbrev pub closed : Built → Built
 closed b = record { variables = b.variables; first = b.first; levels = b.levels; bound = b.bound; clauses = b.clauses ++ b.pending ∷ []; pending = []; literals = b.literals }
+
+-- there are at most 512 clauses
+abbrev pub ending : Built → Result Built ClauseFault
+ending b = cond (nat_lt (length b.clauses) 512) (Ok (closed b)) (Err TooManyClauses)
 
 -- what a call returns, and what it leaves: a refusal changes nothing
 abbrev pub outcome : {E : Type 0} → Result Built E → Result (Unit {0}) E

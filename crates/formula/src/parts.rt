@@ -42,15 +42,8 @@ impl Parts {
         requires { self.now.variables ≤ 256 }
         ensures { result ≡ first_of (keep (binds_at self.now.bound level) (from (after + 1) (self.now.variables - after))) }
     {
-        if after >= self.variables {
-            return None;
-        }
-        for v in after + 1..self.variables + 1 {
-            if self.bound[v] == level {
-                return Some(v);
-            }
-        }
-        None
+        let next = after.checked_add(1)?;
+        (next..self.variables + 1).find(|v| self.bound[*v] == level)
     }
 
     // How many variables the level binds.
@@ -59,12 +52,8 @@ impl Parts {
         ensures count { result ≡ length (variables_of self.now.variables self.now.bound level) }
         ensures few { result ≤ 256 }
     {
-        let mut count = 0;
-        for v in 1..self.variables + 1 {
-            if self.bound[v] == level {
-                count += 1;
-            }
-        }
-        count
+        (1..self.variables + 1)
+            .filter(|v| self.bound[*v] == level)
+            .count()
     }
 }
