@@ -1,4 +1,4 @@
-use Rattle.std.proofs.Common.{◌≡◌, ◌+◌, ◌-◌, ◌≤◌, length, get_or, take, drop, sym, refl, ap, ◌∙◌, subst, inr, arith, rules}
+use Rattle.std.proofs.Common.{◌≡◌, ◌+◌, ◌-◌, ◌≤◌, length, get_or, take, drop, sym, refl, ap, ◌∙◌, inr, arith, rules}
 use Rattle.formula.specs.Built.{clause_in}
 use Rattle.formula.specs.Model.{qbf}
 use Rattle.formula.proofs.Arrays.{count_clauses, ends_below}
@@ -17,8 +17,10 @@ part-requires c =
     let i = c.in_ok-before.before in
     let next : i + 1 ≡ c.args.number = omega (arith, c.in_ok-before.ensures.1, c.in_ok-before.ensures.0) in
     let all : p.count ≤ length p.literals = search rules in
-    subst (λ n. (get_or p.ends i 0 ≤ get_or p.ends n 0) × (get_or p.ends n 0 ≤ length p.literals)) next
-    (f.ordered i c.if-before-self.false, omega (arith, ends_below p.literals p.ends p.clauses p.count f.ordered f.ends.1 i c.if-before-self.false))
+    let same : get_or p.ends (i + 1) 0 ≡ get_or p.ends c.args.number 0 = ap (λ n. get_or p.ends n 0) next in
+    let rise : get_or p.ends i 0 ≤ get_or p.ends (i + 1) 0 = f.ordered i c.if-before-self.false in
+    let top : get_or p.ends (i + 1) 0 ≤ p.count = ends_below p.literals p.ends p.clauses p.count f.ordered f.ends.1 i c.if-before-self.false in
+    (omega arith, omega arith)
 
 pub returns : goal.returns
 returns c =
