@@ -22,9 +22,9 @@ ten_more n d i h k = rw add-one (omega (arith, pow-suc 10 i))
 pub ten_top : (n i j : ℕ) → n < 10 ^ i → i ≤ j → n < 10 ^ j
 ten_top n i j h k = omega (arith, pow-le-pow_right {n = 10} (lit< tt) k)
 
-pub plain_is : (w : List ℕ) → (length w ≡ 0 → ⊥) → length w ≤ 9 → (get_or w 0 0 ≡ 48 → ⊥) → plain w ≡ read_on 0 w
+pub plain_is : (w : List ℕ) → 0 < length w → length w ≤ 9 → (get_or w 0 0 ≡ 48 → ⊥) → plain w ≡ read_on 0 w
 plain_is w some few first =
-    cond-false _ _ _ (or_from _ _ (or_from _ _ (ne_eqb _ _ some) (le-ltb _ _ few)) (ne_eqb _ _ first))
+    cond-false _ _ _ (or_from _ _ (or_from _ _ (ne_eqb (length w) 0 (λ e. omega arith)) (le-ltb _ _ few)) (ne_eqb _ _ first))
 
 pub minus_is : (w : List ℕ) → get_or w 0 0 ≡ 45 → number_of w ≡ option_map (λ n. neg_ℤ (pos n)) (plain (drop 1 w))
 minus_is w h =

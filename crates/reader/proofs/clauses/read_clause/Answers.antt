@@ -1,7 +1,7 @@
-use Rattle.std.proofs.Common.{◌≡◌, ◌+◌, ◌<◌, true, cond, length, nat_abs, sym, ap, ◌∙◌, arith, rules}
+use Rattle.std.proofs.Common.{◌≡◌, ◌+◌, ◌<◌, length, nat_abs, sym, ap, ◌∙◌, arith, rules}
 use Rattle.std.proofs.lemmas.List.{length_push}
-use Rattle.std.proofs.lemmas.Bool.{lt-ltb}
-use Rattle.formula.specs.Built.{closed}
+use Rattle.std.proofs.lemmas.Bool.{cond-true, lt-ltb}
+use Rattle.formula.specs.Built.{closed, leaves}
 use Rattle.reader.specs.Words.{said, first, left_at}
 use Rattle.reader.specs.Text.{clauses, reading}
 use Rattle.reader.specs.Left.{left, size, drawn}
@@ -14,8 +14,7 @@ returns-then-numeral-eq0 c =
     let n = size c.args.words.now in
     let kept : old.clauses ≡ (drawn c.args.draft.now).clauses = c.loop-numeral.invariant.1 in
     let room : length old.clauses < 512 = omega (arith, ap length kept, c.requires) in
-    let yes : c.end_clause.result ≡ true = c.end_clause.ensures.ended ∙ lt-ltb _ _ room in
-    let done : drawn c.end_clause.new.self ≡ closed old = c.end_clause.ensures.after ∙ ap (λ r. cond r (closed old) old) yes in
+    let done : drawn c.end_clause.new.self ≡ closed old = c.end_clause.ensures.after ∙ ap (leaves old) (cond-true _ _ _ (lt-ltb _ _ room)) in
     let same : size c.loop-numeral.words ≡ n = c.loop-numeral.invariant.0 in
     let zero : nat_abs c.in_ok-numeral.numeral.value ≡ 0 = search rules in
     record {
