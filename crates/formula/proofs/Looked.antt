@@ -101,9 +101,6 @@ count_here p v n c t h y e = omega (arith, ap length (keep_here p v n h y))
 pub count_past : (p : ℕ → Bool) (v n c t : ℕ) → v ≤ n → p v ≡ false → c + length (keep p (from v (n + 1 - v))) ≡ t → c + length (keep p (from (v + 1) (n + 1 - (v + 1)))) ≡ t
 count_past p v n c t h y e = omega (arith, ap length (keep_past p v n h y))
 
-pub bound_more : (f : ℕ → List ℕ) (v n c t : ℕ) → v ≤ n → c + bound_in (each f (from v (n + 1 - v))) ≡ t → c + length (f v) + bound_in (each f (from (v + 1) (n + 1 - (v + 1)))) ≡ t
-bound_more f v n c t h e = omega (arith, ap (λ l. bound_in (each f l)) (from_more v n h))
-
 pub bound_sum : (f : ℕ → List ℕ) (i n : ℕ) → sum_by (λ m. length (f m)) (range_with_len i n) ≡ bound_in (each f (from i n))
 bound_sum f i n = ap (sum_by (λ m. length (f m))) (range_row i n) ∙ same (from i n)
   where

@@ -42,9 +42,6 @@ first_found p i n r e = kept r ∙ e ∙ ap (find p) (range_row i n) ∙ same (f
         cond_both (p x) (Some x) (find p l) (λ o. o ≡ first_of (keep p (x ∷ l)))
         (λ t. sym (ap first_of (cond-true _ _ _ t))) (λ f. same l ∙ sym (ap first_of (cond-false _ _ _ f)))
 
-pub first_here : (p : ℕ → Bool) (v n : ℕ) (l : List ℕ) → v ≤ n → p v ≡ true → l ≡ keep p (from v (n + 1 - v)) → Some v ≡ first_of l
-first_here p v n l h t e = sym (ap first_of (e ∙ keep_here p v n h t))
-
 pub from-push : (i n : ℕ) → from i (n + 1) ≡ from i n ++ (i + n) ∷ []
 from-push i n = ap (from i) (add-one n) ∙ push i n
   where

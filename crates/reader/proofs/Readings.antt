@@ -25,11 +25,3 @@ ten_top n i j h k = omega (arith, pow-le-pow_right {n = 10} (lit< tt) k)
 pub plain_is : (w : List ℕ) → 0 < length w → length w ≤ 9 → (get_or w 0 0 ≡ 48 → ⊥) → plain w ≡ read_on 0 w
 plain_is w some few first =
     cond-false _ _ _ (or_from _ _ (or_from _ _ (ne_eqb (length w) 0 (λ e. omega arith)) (le-ltb _ _ few)) (ne_eqb _ _ first))
-
-pub minus_is : (w : List ℕ) → get_or w 0 0 ≡ 45 → number_of w ≡ option_map (λ n. neg_ℤ (pos n)) (plain (drop 1 w))
-minus_is w h =
-    let not-zero : get_or w 0 0 ≡ 48 → ⊥ = λ e. omega arith in
-    cond-false _ _ _ (and_right _ _ (ne_eqb _ _ not-zero)) ∙ cond-true _ _ _ (eq-eqb _ _ h)
-
-pub neg_is : (n : ℕ) → n < 1000000000 → to_z w32 (of_z w32 (pos 0 -ℤ to_z w32 n)) ≡ neg_ℤ (pos n)
-neg_is n h = omega (arith, ints)
