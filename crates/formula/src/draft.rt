@@ -8,6 +8,7 @@ use crate::formula::Formula;
 use crate::limits::{MAX_CLAUSES, MAX_LEVELS, MAX_LITERALS, MAX_VARIABLES};
 use crate::parts::Parts;
 use crate::side::Side;
+use arrayvec::ArrayVec;
 
 #[derive(Drop)]
 pub struct Draft {
@@ -29,16 +30,16 @@ impl Draft {
         if variables > MAX_VARIABLES {
             return None;
         }
+        let mut ends = ArrayVec::new();
+        ends.push(0);
         Some(Draft {
             parts: Parts {
                 variables,
                 first: Side::Ours,
                 levels: 0,
                 bound: [0; 257],
-                clauses: 0,
-                ends: [0; 513],
-                count: 0,
-                literals: [0; 4096],
+                ends,
+                literals: ArrayVec::new(),
             },
         })
     }
@@ -114,11 +115,10 @@ impl Draft {
         if self.parts.bound[variable] == 0 {
             return Err(LiteralFault::Unbound);
         }
-        if self.parts.count >= MAX_LITERALS {
+        if self.parts.literals.len() >= MAX_LITERALS {
             return Err(LiteralFault::TooMany);
         }
-        self.parts.literals[self.parts.count] = literal;
-        self.parts.count += 1;
+        self.parts.literals.push(literal);
         Ok(())
     }
 
@@ -127,12 +127,10 @@ impl Draft {
         ensures ended { result ≡ outcome (ending (built self.old.parts)) }
         ensures after { built self.new.parts ≡ leaves (built self.old.parts) (ending (built self.old.parts)) }
     {
-        let clauses = self.parts.clauses;
-        if clauses >= MAX_CLAUSES {
+        if self.parts.clauses() >= MAX_CLAUSES {
             return Err(ClauseFault::TooMany);
         }
-        self.parts.ends[clauses + 1] = self.parts.count;
-        self.parts.clauses = clauses + 1;
+        self.parts.ends.push(self.parts.literals.len());
         Ok(())
     }
 
@@ -148,7 +146,8 @@ impl Draft {
     pub fn finish(self) -> Option<Formula>
         ensures { MatchOption result (may_finish (built self.parts) ≡ false) (λ f. (may_finish (built self.parts) ≡ true) × (f.parts ≡ self.parts)) }
     {
-        if self.parts.ends[self.parts.clauses] < self.parts.count || !self.ends_well() {
+        let whole = self.parts.ends[self.parts.clauses()];
+        if whole < self.parts.literals.len() || !self.ends_well() {
             return None;
         }
         Some(Formula { parts: self.parts })

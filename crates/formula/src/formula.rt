@@ -51,7 +51,7 @@ impl Formula {
         ensures value { result ≡ length (qbf self.now.parts).clauses }
         ensures few { result ≤ 512 }
     {
-        self.parts.clauses
+        self.parts.clauses()
     }
 
     // How many levels there are.
@@ -93,12 +93,13 @@ impl Formula {
         ensures { MatchOption result (number < 1 ⊎ length (qbf self.now.parts).clauses < number) (λ c. (1 ≤ number) × (number ≤ length (qbf self.now.parts).clauses) × (c.now ≡ clause_at (qbf self.now.parts) number)) }
     {
         let before = number.checked_sub(1)?;
-        if before >= self.parts.clauses {
+        if before >= self.parts.clauses() {
             return None;
         }
-        let from = self.parts.ends[before];
-        let to = self.parts.ends[number];
-        Some(part(&self.parts.literals, from, to))
+        let ends = self.parts.ends.as_slice();
+        let from = ends[before];
+        let to = ends[number];
+        Some(part(self.parts.literals.as_slice(), from, to))
     }
 
     // How many variables are bound, over all levels.

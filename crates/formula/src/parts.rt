@@ -1,12 +1,14 @@
 // What a formula consists of, in fixed arrays, and how it is looked up there.
-ghost use Rattle.std.specs.Prelude.{◌≡◌, ◌+◌, ◌-◌, ◌≤◌, length};
+ghost use Rattle.std.specs.Prelude.{◌≡◌, ◌+◌, ◌-◌, ◌<◌, ◌≤◌, length};
 ghost use Rattle.formula.specs.Lists.{keep, from};
 ghost use Rattle.formula.specs.Sides.{side_at};
 ghost use Rattle.formula.specs.Found.{first_of, binds_at, variables_of};
+ghost use Rattle.formula.specs.Built.{clauses_in};
 
 use crate::side::Side;
+use arrayvec::ArrayVec;
 
-#[derive(Clone, Copy)]
+#[derive(Drop)]
 pub struct Parts {
     // declared variables
     pub(crate) variables: usize,
@@ -16,16 +18,21 @@ pub struct Parts {
     pub(crate) levels: usize,
     // the level that binds each variable, 0 while it is unbound; place 0 is not used
     pub(crate) bound: [usize; 257],
-    // how many clauses are whole
-    pub(crate) clauses: usize,
-    // clause i lies in `literals` from ends[i - 1] to ends[i]
-    pub(crate) ends: [usize; 513],
-    // how many literals there are, those of a clause that is not whole yet included
-    pub(crate) count: usize,
-    pub(crate) literals: [i32; 4096],
+    // 0, and where each whole clause ends: clause i lies in `literals` from ends[i - 1] to ends[i]
+    pub(crate) ends: ArrayVec<usize, 513>,
+    // the literals of the whole clauses, and of one that is not whole yet
+    pub(crate) literals: ArrayVec<i32, 4096>,
 }
 
 impl Parts {
+    // How many clauses are whole.
+    pub(crate) fn clauses(&self) -> usize
+        requires { 0 < length self.now.ends.items }
+        ensures { result ≡ clauses_in self.now }
+    {
+        self.ends.len() - 1
+    }
+
     // The side of a level, from that of level 1.
     pub(crate) fn side(&self, level: usize) -> Side
         ensures { result ≡ side_at self.now.first level }

@@ -1,37 +1,42 @@
-use Rattle.std.proofs.Common.{◌≡◌, ◌+◌, ◌-◌, ◌≤◌, length, get_or, take, drop, sym, refl, ap, ◌∙◌, inr, arith, rules}
-use Rattle.formula.specs.Built.{clause_in}
+use Rattle.std.proofs.Common.{◌≡◌, ◌+◌, ◌-◌, ◌<◌, ◌≤◌, length, get_or, take, drop, sym, refl, ap, ◌∙◌, ap₂, inr, arith}
+use Rattle.formula.specs.Built.{clause_in, clauses_in}
 use Rattle.formula.specs.Model.{qbf}
 use Rattle.formula.proofs.Arrays.{count_clauses, ends_below}
 use Rattle.formula.proofs.Looked.{clause_there}
 use Rattle.formula.proofs.formula.Formula.clause.Goals as goal
 
-pub returns-then-before-self : goal.returns-then-before-self
-returns-then-before-self c =
+pub returns-then-before-clauses : goal.returns-then-before-clauses
+returns-then-before-clauses c =
     let p = c.args.self.now.parts in
-    inr (omega (arith, c.in_ok-before.ensures.1, count_clauses (clause_in p.literals p.ends) p.clauses))
+    inr (omega (arith, c.clauses.ensures, c.in_ok-before.ensures.1, count_clauses (clause_in p.literals.items p.ends.items) (clauses_in p)))
 
 pub part-requires : goal.part-requires
 part-requires c =
     let f = c.args.self.now in
     let p = f.parts in
     let i = c.in_ok-before.before in
+    let es = c.as_slice-ends.result.now in
+    let there : i < clauses_in p = omega (arith, c.clauses.ensures) in
     let next : i + 1 ≡ c.args.number = omega (arith, c.in_ok-before.ensures.1, c.in_ok-before.ensures.0) in
-    let all : p.count ≤ length p.literals = search rules in
-    let same : get_or p.ends (i + 1) 0 ≡ get_or p.ends c.args.number 0 = ap (λ n. get_or p.ends n 0) next in
-    let rise : get_or p.ends i 0 ≤ get_or p.ends (i + 1) 0 = f.ordered i c.if-before-self.false in
-    let top : get_or p.ends (i + 1) 0 ≤ p.count = ends_below p.literals p.ends p.clauses p.count f.ordered f.ends.1 i c.if-before-self.false in
+    let rise : get_or p.ends.items i 0 ≤ get_or p.ends.items (i + 1) 0 = f.ordered i there in
+    let top : get_or p.ends.items (i + 1) 0 ≤ length p.literals.items = ends_below p.literals.items p.ends.items (clauses_in p) (length p.literals.items) f.ordered f.ends.1 i there in
+    let low : get_or p.ends.items i 0 ≡ get_or es i 0 = ap (λ xs. get_or xs i 0) (sym c.as_slice-ends.ensures.value) in
+    let high : get_or p.ends.items (i + 1) 0 ≡ get_or es c.args.number 0 = ap₂ (λ xs n. get_or xs n 0) (sym c.as_slice-ends.ensures.value) next in
+    let long : length c.as_slice.result.now ≡ length p.literals.items = ap length c.as_slice.ensures.value in
     (omega arith, omega arith)
 
 pub returns : goal.returns
 returns c =
     let p = c.args.self.now.parts in
     let i = c.in_ok-before.before in
-    let next : i + 1 ≡ c.args.number = omega (arith, c.in_ok-before.ensures.1, c.in_ok-before.ensures.0) in
-    let back : i ≡ c.args.number - 1 = omega arith in (
+    let n = c.args.number in
+    let next : i + 1 ≡ n = omega (arith, c.in_ok-before.ensures.1, c.in_ok-before.ensures.0) in
+    let back : i ≡ n - 1 = omega arith in (
       omega arith,
-      omega (arith, count_clauses (clause_in p.literals p.ends) p.clauses),
+      omega (arith, c.clauses.ensures, count_clauses (clause_in p.literals.items p.ends.items) (clauses_in p)),
       c.part.ensures
-          ∙ ap (λ n. take (get_or p.ends n 0 - get_or p.ends i 0) (drop (get_or p.ends i 0) p.literals)) (sym next)
-          ∙ ap (clause_in p.literals p.ends) back
-          ∙ sym (clause_there (qbf p) (clause_in p.literals p.ends) p.clauses refl c.args.number (omega arith) (omega arith)),
+          ∙ ap₂ (λ es ls. take (get_or es n 0 - get_or es i 0) (drop (get_or es i 0) ls)) c.as_slice-ends.ensures.value c.as_slice.ensures.value
+          ∙ ap (λ m. take (get_or p.ends.items m 0 - get_or p.ends.items i 0) (drop (get_or p.ends.items i 0) p.literals.items)) (sym next)
+          ∙ ap (clause_in p.literals.items p.ends.items) back
+          ∙ sym (clause_there (qbf p) (clause_in p.literals.items p.ends.items) (clauses_in p) refl n (omega arith) (omega (arith, c.clauses.ensures))),
     )
