@@ -1,5 +1,5 @@
 -- When a literal is taken, and what the parts then stand for.
-use Rattle.std.proofs.Common.{◌≡◌, ℕ, List, ◌+◌, ◌-◌, ◌<◌, ◌≤◌, false, leb, length, [], ◌∷◌, ◌++◌, get_or, take, drop, ℤ, nat_abs, Ok, refl, ap, ◌∙◌, ap₂, arith}
+use Rattle.std.proofs.Common.{◌≡◌, ℕ, List, ◌+◌, ◌-◌, ◌≤◌, false, leb, length, [], ◌∷◌, ◌++◌, get_or, take, drop, ℤ, nat_abs, Ok, refl, ap, ◌∙◌, ap₂, arith}
 use native.Mathlib.Nat.{sub_self}
 use Rattle.std.proofs.lemmas.List.{get_or_push, length_push}
 use Rattle.std.proofs.lemmas.Bool.{cond-false, ne_eqb, le-ltb}

@@ -1,7 +1,7 @@
 -- What one write into the lists of a formula changes, and what it leaves.
 use Rattle.std.proofs.Common.{◌≡◌, ℕ, zero, suc, ◌+◌, ◌-◌, ◌<◌, ◌≤◌, eqb, ◌≢◌, List, [], ◌∷◌, ◌++◌, length, get_or, take, drop, set, ℤ, sym, refl, ap, ◌∙◌, subst, ⊎_elim, arith}
 use Rattle.std.proofs.lemmas.List.{get_or-set_same, get_or-set_other, take-append-le, drop-append-le, take_rest, length-drop, get_or_push, get_or_append_left}
-use Rattle.std.proofs.lemmas.Bool.{cases_eq, cases_lt, ne_eqb}
+use Rattle.std.proofs.lemmas.Bool.{cases_eq, ne_eqb}
 use Rattle.formula.specs.Lists.{each, from, below}
 use Rattle.formula.specs.Found.{binds_at, variables_of}
 use Rattle.formula.specs.Built.{clause_in}
@@ -13,12 +13,6 @@ pub written : {A : Type 0} (P : ℕ → A → Type 0) (l : List A) (v : ℕ) (a 
 written P l v a d h at other u =
     ⊎_elim (λ e. subst (λ w. P w (get_or (set l v a) w d)) (sym e) (subst (P v) (sym (get_or-set_same l v a d h)) at))
     (λ n. subst (P u) (sym (get_or-set_other l v u a d n)) (other u n)) (cases_eq u v)
-
--- what a list holds with an element more
-pub pushed : {A : Type 0} (P : A → Type 0) (l : List A) (x d : A) → P x → ((j : ℕ) → j < length l → P (get_or l j d)) → (j : ℕ) → j < length l + 1 → P (get_or (l ++ x ∷ []) j d)
-pushed P l x d at old j h =
-    ⊎_elim (λ k. subst P (sym (get_or_append_left l (x ∷ []) d j k)) (old j k))
-    (λ k. subst P (sym (get_or_push l x d j (omega arith))) at) (cases_lt j (length l))
 
 -- binding v at level m leaves the variables of a lower level as they are
 pub lower_level_same : (n : ℕ) (bound : List ℕ) (v m j : ℕ) → v < length bound → get_or bound v 0 ≤ 0 → 0 < j → j < m → variables_of n (set bound v m) j ≡ variables_of n bound j

@@ -1,5 +1,5 @@
 -- What is read off the arrays of a whole formula, as facts of the formula that they stand for.
-use Rattle.std.proofs.Common.{◌≡◌, ℕ, zero, suc, ◌+◌, ◌-◌, ◌<◌, ◌≤◌, Bool, true, false, ◌&&◌, ◌||◌, leb, ltb, ◌⊎◌, List, [], ◌∷◌, sum_by, length, get_or, ℤ, sym, refl, ap, ◌∙◌, ⊎_elim, add-zero, arith}
+use Rattle.std.proofs.Common.{◌≡◌, ℕ, zero, suc, ◌+◌, ◌-◌, ◌<◌, ◌≤◌, Bool, true, false, ◌&&◌, ◌||◌, leb, ltb, List, [], ◌∷◌, sum_by, length, get_or, ℤ, sym, refl, ap, ◌∙◌, ⊎_elim, add-zero, arith}
 use Rattle.std.proofs.lemmas.Bool.{cond_both, cond-true, cond-false, ne_eqb, eq-eqb, lt-ltb, le-ltb, cases_lt}
 use Rattle.std.specs.List.{range_with_len}
 use Rattle.formula.specs.Lists.{each, keep, from, below, elem}
@@ -9,7 +9,7 @@ use Rattle.std.proofs.lemmas.List.{get_or_past}
 use Rattle.std.proofs.lemmas.List.Sums.{sum_by-cons}
 use Rattle.formula.specs.Game.{Qbf}
 use Rattle.formula.specs.Model.{level_at, clause_at, bound_in}
-use Rattle.formula.proofs.Ranges.{length_from, range_row, from_more, keep_here, keep_past}
+use Rattle.formula.proofs.Ranges.{length_from, range_row, keep_here, keep_past}
 use Rattle.formula.proofs.Maps.{length-each}
 
 pub count_levels : (f : ℕ → List ℕ) (k : ℕ) → length (each f (from 1 k)) ≡ k

@@ -1,11 +1,9 @@
 -- How digits are read one after another. Assumes nothing.
-use Rattle.std.proofs.Common.{◌≡◌, ℕ, ◌+◌, ◌-◌, ◌*◌, ◌^◌, ◌<◌, ◌≤◌, true, false, List, length, get_or, drop, pos, ◌-ℤ◌, neg_ℤ, Some, None, ◌∙◌, pow-suc, add-one, arith, lit<, w32, to_z, of_z}
+use Rattle.std.proofs.Common.{◌≡◌, ℕ, ◌+◌, ◌-◌, ◌*◌, ◌^◌, ◌<◌, ◌≤◌, true, false, List, length, get_or, drop, Some, None, ◌∙◌, pow-suc, add-one, arith, lit<}
 use native.Mathlib.Nat.{pow-le-pow_right}
-use Rattle.std.proofs.lemmas.Int.{ints}
-use Rattle.std.specs.Option.{option_map}
 use Rattle.std.proofs.lemmas.List.{at_drop_more, at_drop_all}
-use Rattle.std.proofs.lemmas.Bool.{cond-true, cond-false, or_from, and_right, ne_eqb, eq-eqb, le-ltb}
-use Rattle.reader.specs.Bytes.{digit, read_on, plain, number_of}
+use Rattle.std.proofs.lemmas.Bool.{cond-true, cond-false, or_from, ne_eqb, le-ltb}
+use Rattle.reader.specs.Bytes.{digit, read_on, plain}
 
 pub read_more : (n : ℕ) (w : List ℕ) (i : ℕ) → i < length w → digit (get_or w i 0) ≡ true → read_on n (drop i w) ≡ read_on (n * 10 + (get_or w i 0 - 48)) (drop (i + 1) w)
 read_more n w i h d = at_drop_more (read_on n) w i 0 h ∙ cond-true _ _ _ d

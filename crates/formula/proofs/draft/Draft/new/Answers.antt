@@ -1,6 +1,4 @@
-use Rattle.std.proofs.Common.{◌≡◌, ◌-◌, [], ◌∷◌, ◌++◌, length, get_or, replicate, ap, ◌∙◌, ap₂, arith, lit≤}
-use Rattle.formula.specs.declared.side.Side.TheVariants.{Ours}
-use Rattle.formula.specs.Built.{built}
+use Rattle.std.proofs.Common.{◌≡◌, ◌-◌, [], ◌∷◌, ◌++◌, length, get_or, ap, ◌∙◌, arith, lit≤}
 use Rattle.formula.proofs.Zeros.{zeros_le, zeros_none}
 use Rattle.formula.proofs.draft.Draft.new.Goals as goal
 
@@ -18,8 +16,3 @@ invariant_of-result c =
       closed = λ j h. absurd (omega (arith, none));
       filled = λ m h k. absurd (omega arith);
     }
-
-pub returns : goal.returns
-returns c =
-    let start : c.push.new.self.items ≡ 0 ∷ [] = c.push.ensures.items ∙ ap (λ es. es ++ 0 ∷ []) c.new-ends.ensures in
-    ap₂ (λ es ls. built (record { variables = c.args.variables; first = Ours; levels = 0; bound = replicate 257 0; ends = record { items = es }; literals = record { items = ls } })) start c.new.ensures

@@ -1,15 +1,9 @@
-use Rattle.std.proofs.Common.{◌≡◌, true, false, leb, ltb, ◌&&◌, length, sym, refl, ap, ◌∙◌, rules}
+use Rattle.std.proofs.Common.{◌≡◌, true, leb, ltb, ◌&&◌, length, sym, refl, ap, ◌∙◌, rules}
 use Rattle.formula.specs.Lists.{keep}
 use Rattle.formula.specs.Found.{first_of, binds_at, variables_of}
 use Rattle.formula.specs.Model.{qbf}
-use Rattle.formula.proofs.Looked.{level_there, level_absent, next_in}
+use Rattle.formula.proofs.Looked.{level_there, next_in}
 use Rattle.formula.proofs.formula.Formula.next_variable.Goals as goal
-
-pub returns-then-not-has_level : goal.returns-then-not-has_level
-returns-then-not-has_level c =
-    let q = qbf c.args.self.now.parts in
-    let no : (leb 1 c.args.level && leb c.args.level (length q.levels)) ≡ false = search rules in
-    sym (ap (λ l. first_of (keep (ltb c.args.after) l)) (level_absent q c.args.level no))
 
 pub returns : goal.returns
 returns c =

@@ -1,7 +1,6 @@
-use Rattle.std.proofs.Common.{◌≡◌, ◌+◌, ◌-◌, option_map, refl, ◌∙◌, ap₂, arith, rules, tests}
+use Rattle.std.proofs.Common.{◌+◌, ◌-◌, refl, ◌∙◌, ap₂, arith, rules, tests}
 use Rattle.std.proofs.lemmas.Iterator.{YieldsList-from_range}
 use Rattle.std.proofs.lemmas.Iterator.Search.{find_from_yields_List}
-use Rattle.std.specs.List.{find, range_with_len}
 use Rattle.formula.specs.Lists.{keep, from}
 use Rattle.formula.specs.Found.{first_of, binds_at}
 use Rattle.formula.proofs.Ranges.{first_found}
