@@ -37,7 +37,7 @@ impl Draft {
                 variables,
                 first: Side::Ours,
                 levels: 0,
-                bound: [0; 257],
+                bound: [0; MAX_VARIABLES + 1],
                 ends,
                 literals: ArrayVec::new(),
             },

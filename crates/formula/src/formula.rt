@@ -1,5 +1,5 @@
 // A whole formula: read-only, with what every reader of it may rely on in its type.
-ghost use Rattle.std.specs.Prelude.{◌≡◌, ◌+◌, ◌-◌, ◌<◌, ◌≤◌, false, ◌&&◌, ◌⊎◌, length, take, drop, if◌then◌else◌, Some, None, MatchOption, nat_le, nat_lt};
+ghost use Rattle.std.specs.Prelude.{◌≡◌, ◌+◌, ◌-◌, ◌<◌, ◌≤◌, ◌&&◌, ◌⊎◌, length, if◌then◌else◌, Some, None, MatchOption, nat_le, nat_lt};
 ghost use Rattle.formula.specs.Lists.{keep, elem};
 ghost use Rattle.formula.specs.Sides.{side_at};
 ghost use Rattle.formula.specs.Found.{first_of};
@@ -9,14 +9,7 @@ ghost use Rattle.formula.specs.Model.{qbf, level_at, clause_at, bound_in};
 use crate::parts::Parts;
 use crate::side::Side;
 
-// The literals from one place to another.
-fn part(literals: &[i32], from: usize, to: usize) -> &[i32]
-    requires { (from ≤ to) × (to ≤ length literals.now) }
-    ensures { result.now ≡ take (to - from) (drop from literals.now) }
-{
-    &literals[from..to]
-}
-
+// Seven facts stand in Draft too: crates above speak of `formula.parts`, so no struct between them can hold these.
 #[derive(Drop)]
 pub struct Formula {
     pub(crate) parts: Parts,
@@ -99,7 +92,7 @@ impl Formula {
         let ends = self.parts.ends.as_slice();
         let from = ends[before];
         let to = ends[number];
-        Some(part(self.parts.literals.as_slice(), from, to))
+        Some(&self.parts.literals.as_slice()[from..to])
     }
 
     // How many variables are bound, over all levels.

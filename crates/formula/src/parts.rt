@@ -5,6 +5,7 @@ ghost use Rattle.formula.specs.Sides.{side_at};
 ghost use Rattle.formula.specs.Found.{first_of, binds_at, variables_of};
 ghost use Rattle.formula.specs.Built.{clauses_in};
 
+use crate::limits::{MAX_ENDS, MAX_LITERALS, MAX_VARIABLES};
 use crate::side::Side;
 use arrayvec::ArrayVec;
 
@@ -16,12 +17,12 @@ pub struct Parts {
     pub(crate) first: Side,
     // how many levels there are
     pub(crate) levels: usize,
-    // the level that binds each variable, 0 while it is unbound; place 0 is not used
-    pub(crate) bound: [usize; 257],
+    // the level that binds each variable, or 0 and no Option: so specs/Built, on which contracts stand, has it; place 0 is not used
+    pub(crate) bound: [usize; MAX_VARIABLES + 1],
     // 0, and where each whole clause ends: clause i lies in `literals` from ends[i - 1] to ends[i]
-    pub(crate) ends: ArrayVec<usize, 513>,
+    pub(crate) ends: ArrayVec<usize, MAX_ENDS>,
     // the literals of the whole clauses, and of one that is not whole yet
-    pub(crate) literals: ArrayVec<i32, 4096>,
+    pub(crate) literals: ArrayVec<i32, MAX_LITERALS>,
 }
 
 impl Parts {

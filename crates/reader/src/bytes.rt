@@ -17,6 +17,7 @@ fn digits(word: &[u8]) -> Option<u32>
     if word.is_empty() || word.len() > 9 || word[0] == b'0' {
         return None;
     }
+    // no try_fold: its clauses bound no number so far, and so not the product
     let mut n: u32 = 0;
     for b in word {
         if !b.is_ascii_digit() {

@@ -122,6 +122,7 @@ impl TextFault {
     }
 }
 
+// What is wrong and what to do about it, in one sentence.
 impl fmt::Display for WordFault {
     fn fmt<W: fmt::Write>(&self, f: &mut fmt::Formatter<W>) -> fmt::Result {
         f.write_str(match self {
@@ -136,9 +137,10 @@ impl fmt::Display for WordFault {
 
 impl Error for WordFault {}
 
+// A fault of a word reads as that of the word.
 impl fmt::Display for TextFault {
     fn fmt<W: fmt::Write>(&self, f: &mut fmt::Formatter<W>) -> fmt::Result {
-        f.write_str(match self {
+        let why = match self {
             TextFault::Word(fault) => return fault.fmt(f),
             TextFault::NoHeader(_) => {
                 "the header is due here: p cnf VARIABLES CLAUSES; comment lines begin with c and stand before it"
@@ -158,7 +160,8 @@ impl fmt::Display for TextFault {
                 "this is the 4,097th literal of the clauses: at most 4,096 are taken",
             TextFault::WordAfterEnd(_) =>
                 "the last clause has ended: drop this word, or announce more clauses in the header",
-        })
+        };
+        f.write_str(why)
     }
 }
 

@@ -1,7 +1,7 @@
 // A whole text: comments, the header, the blocks, the clauses, and nothing after them.
-ghost use Rattle.std.specs.Prelude.{◌≡◌, ℕ, true, None, Err, MatchResult};
+ghost use Rattle.std.specs.Prelude.{◌≡◌, ℕ, None, Err, MatchResult};
 ghost use Rattle.reader.specs.Words.{said, first};
-ghost use Rattle.reader.specs.Text.{between, block_side, reading, headed, reads, of_device, after_device};
+ghost use Rattle.reader.specs.Text.{between, block_side, reading, headed, reads, after_device};
 ghost use Rattle.reader.specs.Text.{clauses as clauses'};
 ghost use Rattle.reader.specs.Left.{left, size, drawn, formula_in};
 ghost use Rattle.reader.specs.Grammar.{Writes};

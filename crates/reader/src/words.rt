@@ -1,7 +1,5 @@
 // The words of a text: tokens one after another, each a part of the caller's text with its offset.
-ghost use Rattle.std.specs.Prelude.{◌≡◌, ◌+◌, ◌<◌, ◌≤◌, false, length, drop, slice_index};
-ghost use Rattle.std.specs.List.{prefix_len};
-ghost use Rattle.reader.specs.Bytes.{blank, in_word};
+ghost use Rattle.std.specs.Prelude.{◌≡◌, ◌+◌, ◌<◌, ◌≤◌, length};
 ghost use Rattle.reader.specs.Words.{said, place_of, first, rest, left_at, PartOf};
 ghost use Rattle.reader.specs.Comments.{text_words};
 

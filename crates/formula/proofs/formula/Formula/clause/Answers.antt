@@ -1,17 +1,19 @@
-use Rattle.std.proofs.Common.{◌≡◌, ◌+◌, ◌-◌, ◌<◌, ◌≤◌, length, get_or, take, drop, sym, refl, ap, ◌∙◌, ap₂, inr, arith}
+use Rattle.std.proofs.Common.{◌≡◌, ◌+◌, ◌-◌, ◌<◌, ◌≤◌, length, get_or, take, drop, sym, refl, ap, ◌∙◌, ap₂, inr, arith, rules}
 use Rattle.formula.specs.Built.{clause_in, clauses_in}
 use Rattle.formula.specs.Model.{qbf}
 use Rattle.formula.proofs.Arrays.{count_clauses, ends_below}
 use Rattle.formula.proofs.Looked.{clause_there}
 use Rattle.formula.proofs.formula.Formula.clause.Goals as goal
+use Rattle.formula.proofs.formula.Formula.clause.Goals.{After-as_slice}
 
 pub returns-then-before-clauses : goal.returns-then-before-clauses
 returns-then-before-clauses c =
     let p = c.args.self.now.parts in
     inr (omega (arith, c.clauses.ensures, c.in_ok-before.ensures.1, count_clauses (clause_in p.literals.items p.ends.items) (clauses_in p)))
 
-pub part-requires : goal.part-requires
-part-requires c =
+-- where the clause begins and ends
+inside : (c : After-as_slice) → let es = c.as_slice-ends.result.now in (get_or es c.in_ok-before.before 0 ≤ get_or es c.args.number 0) × (get_or es c.args.number 0 ≤ length c.as_slice.result.now)
+inside c =
     let f = c.args.self.now in
     let p = f.parts in
     let i = c.in_ok-before.before in
@@ -25,6 +27,12 @@ part-requires c =
     let long : length c.as_slice.result.now ≡ length p.literals.items = ap length c.as_slice.ensures.value in
     (omega arith, omega arith)
 
+pub offset_bounds-as_slice-from : goal.offset_bounds-as_slice-from
+offset_bounds-as_slice-from c = let i = inside c in omega arith
+
+pub slice_bounds-result-end : goal.slice_bounds-result-end
+slice_bounds-result-end c = let i = inside c in search (rules, i)
+
 pub returns : goal.returns
 returns c =
     let p = c.args.self.now.parts in
@@ -34,8 +42,7 @@ returns c =
     let back : i ≡ n - 1 = omega arith in (
       omega arith,
       omega (arith, c.clauses.ensures, count_clauses (clause_in p.literals.items p.ends.items) (clauses_in p)),
-      c.part.ensures
-          ∙ ap₂ (λ es ls. take (get_or es n 0 - get_or es i 0) (drop (get_or es i 0) ls)) c.as_slice-ends.ensures.value c.as_slice.ensures.value
+      ap₂ (λ es ls. take (get_or es n 0 - get_or es i 0) (drop (get_or es i 0) ls)) c.as_slice-ends.ensures.value c.as_slice.ensures.value
           ∙ ap (λ m. take (get_or p.ends.items m 0 - get_or p.ends.items i 0) (drop (get_or p.ends.items i 0) p.literals.items)) (sym next)
           ∙ ap (clause_in p.literals.items p.ends.items) back
           ∙ sym (clause_there (qbf p) (clause_in p.literals.items p.ends.items) (clauses_in p) refl n (omega arith) (omega (arith, c.clauses.ensures))),
