@@ -3,7 +3,7 @@ ghost use Rattle.std.specs.Prelude.{◌≡◌, ◌+◌, ◌-◌, ◌<◌, ◌≤
 ghost use Rattle.formula.specs.Lists.{keep, from};
 ghost use Rattle.formula.specs.Sides.{side_at};
 ghost use Rattle.formula.specs.Found.{first_of, binds_at, variables_of};
-ghost use Rattle.formula.specs.Built.{clauses_in};
+ghost use Rattle.formula.specs.Built.{built, clauses_in};
 
 use crate::limits::{MAX_ENDS, MAX_LITERALS, MAX_VARIABLES};
 use crate::side::Side;
@@ -29,7 +29,8 @@ impl Parts {
     // How many clauses are whole.
     pub(crate) fn clauses(&self) -> usize
         requires { 0 < length self.now.ends.items }
-        ensures { result ≡ clauses_in self.now }
+        ensures value { result ≡ clauses_in self.now }
+        ensures count { result ≡ length (built self.now).clauses }
     {
         self.ends.len() - 1
     }
