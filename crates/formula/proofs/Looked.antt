@@ -1,12 +1,15 @@
 -- What is read off the arrays of a whole formula, as facts of the formula that they stand for.
-use Rattle.std.proofs.Common.{◌≡◌, ℕ, zero, suc, ◌+◌, ◌-◌, ◌<◌, ◌≤◌, Bool, true, false, ◌||◌, ltb, ◌⊎◌, List, [], ◌∷◌, length, get_or, ℤ, sym, refl, ap, ◌∙◌, ⊎_elim, add-zero, arith}
+use Rattle.std.proofs.Common.{◌≡◌, ℕ, zero, suc, ◌+◌, ◌-◌, ◌<◌, ◌≤◌, Bool, true, false, ◌&&◌, ◌||◌, leb, ltb, List, [], ◌∷◌, sum_by, length, get_or, ℤ, sym, refl, ap, ◌∙◌, ⊎_elim, add-zero, arith}
 use Rattle.std.proofs.lemmas.Bool.{cond_both, cond-true, cond-false, ne_eqb, eq-eqb, lt-ltb, le-ltb, cases_lt}
+use Rattle.std.specs.List.{range_with_len}
 use Rattle.formula.specs.Lists.{each, keep, from, below, elem}
 use Rattle.formula.specs.Found.{first_of}
+use Rattle.std.proofs.lemmas.Bool.Decides.{nat_tests}
 use Rattle.std.proofs.lemmas.List.{get_or_past}
+use Rattle.std.proofs.lemmas.List.Sums.{sum_by-cons}
 use Rattle.formula.specs.Game.{Qbf}
 use Rattle.formula.specs.Model.{level_at, clause_at, bound_in}
-use Rattle.formula.proofs.Ranges.{length_from, from_more, keep_here, keep_past}
+use Rattle.formula.proofs.Ranges.{length_from, range_row, keep_here, keep_past}
 use Rattle.formula.proofs.Maps.{length-each}
 
 pub count_levels : (f : ℕ → List ℕ) (k : ℕ) → length (each f (from 1 k)) ≡ k
@@ -72,15 +75,15 @@ next_in p n after =
     sym (ap first_of (kept_after p after 1 n (omega arith) ∙ ap (λ k. keep (ltb after) (keep p (from (after + 1) k))) e ∙ all_after p after (after + 1) (n - after) (omega arith)))
 
 module _ (q : Qbf) (f : ℕ → List ℕ) (k : ℕ) (made : q.levels ≡ each f (from 1 k)) where
-  pub level_there : (m : ℕ) → 1 ≤ m → m ≤ k → level_at q m ≡ f m
-  level_there zero h l = absurd (omega arith)
-  level_there (suc m) h l = ap (λ ls. get_or ls m []) made ∙ each-from_at f 1 k m [] l ∙ ap f (omega arith)
+  pub level_there : (m : ℕ) → (leb 1 m && leb m (length q.levels)) ≡ true → level_at q m ≡ f m
+  level_there zero h = absurd (grind (arith, nat_tests))
+  level_there (suc m) h =
+      let low : suc m ≤ length q.levels = grind (arith, nat_tests) in
+      ap (λ ls. get_or ls m []) made ∙ each-from_at f 1 k m [] (omega (arith, ap length made, count_levels f k)) ∙ ap f (omega arith)
 
-  pub level_absent : (m : ℕ) → (m < 1) ⊎ (k < m) → level_at q m ≡ []
-  level_absent zero h = refl
-  level_absent (suc m) h =
-      let high : k ≤ m = ⊎_elim (λ l. absurd (omega arith)) (λ l. omega arith) h in
-      ap (λ ls. get_or ls m []) made ∙ get_or_past (each f (from 1 k)) m [] (omega (arith, count_levels f k))
+pub level_absent : (q : Qbf) (m : ℕ) → (leb 1 m && leb m (length q.levels)) ≡ false → level_at q m ≡ []
+level_absent q zero h = refl
+level_absent q (suc m) h = get_or_past q.levels m [] (grind (arith, nat_tests))
 
 pub clause_there : (q : Qbf) (f : ℕ → List ℤ) (k : ℕ) → q.clauses ≡ each f (below k) → (i : ℕ) → 1 ≤ i → i ≤ k → clause_at q i ≡ f (i - 1)
 clause_there q f k made zero h l = absurd (omega arith)
@@ -98,5 +101,9 @@ count_here p v n c t h y e = omega (arith, ap length (keep_here p v n h y))
 pub count_past : (p : ℕ → Bool) (v n c t : ℕ) → v ≤ n → p v ≡ false → c + length (keep p (from v (n + 1 - v))) ≡ t → c + length (keep p (from (v + 1) (n + 1 - (v + 1)))) ≡ t
 count_past p v n c t h y e = omega (arith, ap length (keep_past p v n h y))
 
-pub bound_more : (f : ℕ → List ℕ) (v n c t : ℕ) → v ≤ n → c + bound_in (each f (from v (n + 1 - v))) ≡ t → c + length (f v) + bound_in (each f (from (v + 1) (n + 1 - (v + 1)))) ≡ t
-bound_more f v n c t h e = omega (arith, ap (λ l. bound_in (each f l)) (from_more v n h))
+pub bound_sum : (f : ℕ → List ℕ) (i n : ℕ) → sum_by (λ m. length (f m)) (range_with_len i n) ≡ bound_in (each f (from i n))
+bound_sum f i n = ap (sum_by (λ m. length (f m))) (range_row i n) ∙ same (from i n)
+  where
+    same : (l : List ℕ) → sum_by (λ m. length (f m)) l ≡ bound_in (each f l)
+    same [] = refl
+    same (m ∷ l) = sum_by-cons (λ m. length (f m)) m l ∙ ap (λ k. length (f m) + k) (same l)

@@ -1,6 +1,7 @@
 -- Numbers in a row, and those of them that a test keeps.
-use Rattle.std.proofs.Common.{◌≡◌, ℕ, zero, suc, ◌+◌, ◌-◌, ◌≤◌, Bool, true, false, cond, List, [], ◌∷◌, ◌++◌, length, Some, sym, refl, ap, ◌∙◌, add-zero, add-one, arith}
-use Rattle.std.proofs.lemmas.Bool.{cond-true, cond-false}
+use Rattle.std.proofs.Common.{◌≡◌, ℕ, zero, suc, ◌+◌, ◌-◌, ◌≤◌, Bool, true, false, cond, List, [], ◌∷◌, ◌++◌, filter, length, Some, None, Option, option_map, sym, refl, ap, ◌∙◌, add-zero, add-one, arith}
+use Rattle.std.proofs.lemmas.Bool.{cond-true, cond-false, cond_both}
+use Rattle.std.specs.List.{find, range_with_len}
 use Rattle.formula.specs.Lists.{keep, from}
 use Rattle.formula.specs.Found.{first_of}
 
@@ -16,8 +17,30 @@ keep_here p v n h t = ap (keep p) (from_more v n h) ∙ cond-true _ _ _ t
 pub keep_past : (p : ℕ → Bool) (v n : ℕ) → v ≤ n → p v ≡ false → keep p (from v (n + 1 - v)) ≡ keep p (from (v + 1) (n + 1 - (v + 1)))
 keep_past p v n h t = ap (keep p) (from_more v n h) ∙ cond-false _ _ _ t
 
-pub first_here : (p : ℕ → Bool) (v n : ℕ) (l : List ℕ) → v ≤ n → p v ≡ true → l ≡ keep p (from v (n + 1 - v)) → Some v ≡ first_of l
-first_here p v n l h t e = sym (ap first_of (e ∙ keep_here p v n h t))
+-- the numbers of a row, and those that a test keeps, as iterators give them
+pub range_row : (i n : ℕ) → range_with_len i n ≡ from i n
+range_row i zero = refl
+range_row i (suc n) = ap (λ r. i ∷ r) (range_row (i + 1) n ∙ ap (λ j. from j n) (add-one i))
+
+pub filter_kept : (p : ℕ → Bool) (i n : ℕ) → filter p (range_with_len i n) ≡ keep p (from i n)
+filter_kept p i n = ap (filter p) (range_row i n) ∙ same (from i n)
+  where
+    same : (l : List ℕ) → filter p l ≡ keep p l
+    same [] = refl
+    same (x ∷ l) = ap (λ r. cond (p x) (x ∷ r) r) (same l)
+
+pub first_found : (p : ℕ → Bool) (i n : ℕ) (r : Option ℕ) → option_map (λ v. v) r ≡ find p (range_with_len i n) → r ≡ first_of (keep p (from i n))
+first_found p i n r e = kept r ∙ e ∙ ap (find p) (range_row i n) ∙ same (from i n)
+  where
+    kept : (r : Option ℕ) → r ≡ option_map (λ v. v) r
+    kept None = refl
+    kept (Some v) = refl
+
+    same : (l : List ℕ) → find p l ≡ first_of (keep p l)
+    same [] = refl
+    same (x ∷ l) =
+        cond_both (p x) (Some x) (find p l) (λ o. o ≡ first_of (keep p (x ∷ l)))
+        (λ t. sym (ap first_of (cond-true _ _ _ t))) (λ f. same l ∙ sym (ap first_of (cond-false _ _ _ f)))
 
 pub from-push : (i n : ℕ) → from i (n + 1) ≡ from i n ++ (i + n) ∷ []
 from-push i n = ap (from i) (add-one n) ∙ push i n

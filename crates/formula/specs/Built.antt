@@ -3,10 +3,14 @@ use Rattle.std.specs.Prelude.{ℕ, ◌+◌, ◌-◌, Bool, cond, not, ◌&&◌, 
 use Rattle.formula.specs.declared.side.Side.{Side}
 use Rattle.formula.specs.declared.side.Side.TheVariants.{Ours}
 use Rattle.formula.specs.declared.parts.Parts.{Parts}
+use Rattle.formula.specs.declared.faults.LevelFault.{LevelFault}
+use Rattle.formula.specs.declared.faults.LevelFault.TheVariants.{MayNotFollow}
 use Rattle.formula.specs.declared.faults.BindFault.{BindFault}
 use Rattle.formula.specs.declared.faults.BindFault.TheVariants.{NoVariable, BoundTwice}
 use Rattle.formula.specs.declared.faults.LiteralFault.{LiteralFault}
 use Rattle.formula.specs.declared.faults.LiteralFault.TheVariants.{OutOfRange, Unbound, TooMany}
+use Rattle.formula.specs.declared.faults.ClauseFault.{ClauseFault}
+use Rattle.formula.specs.declared.faults.ClauseFault.TheVariants.{TooMany as TooManyClauses}
 use Rattle.formula.specs.Lists.{each, below}
 use Rattle.formula.specs.Found.{variables_of}
 use Rattle.formula.specs.Sides.{side_at, same_side}
@@ -29,15 +33,19 @@ pub record Built : Type 0 where
 abbrev pub clause_in : List ℤ → List ℕ → ℕ → List ℤ
 clause_in literals ends i = take (slice_index ends (i + 1) - slice_index ends i) (drop (slice_index ends i) literals)
 
+-- how many clauses are whole
+abbrev pub clauses_in : Parts → ℕ
+clauses_in p = length p.ends.items - 1
+
 abbrev pub built : Parts → Built
 built p = record {
   variables = p.variables;
   first = p.first;
   levels = p.levels;
   bound = p.bound;
-  clauses = each (clause_in p.literals p.ends) (below p.clauses);
-  pending = take (p.count - slice_index p.ends p.clauses) (drop (slice_index p.ends p.clauses) p.literals);
-  literals = p.count;
+  clauses = each (clause_in p.literals.items p.ends.items) (below (clauses_in p));
+  pending = take (length p.literals.items - slice_index p.ends.items (clauses_in p)) (drop (slice_index p.ends.items (clauses_in p)) p.literals.items);
+  literals = length p.literals.items;
 }
 
 -- nothing but n declared variables
@@ -59,6 +67,9 @@ may_start σ b = b.levels == 0 || nat_lt b.levels 32 && not (same_side σ (side_
 -- a level of the side σ more
 abbrev pub started : Side → Built → Built
 started σ b = record { variables = b.variables; first = cond (b.levels == 0) σ b.first; levels = b.levels + 1; bound = b.bound; clauses = b.clauses; pending = b.pending; literals = b.literals }
+
+abbrev pub starting : Side → Built → Result Built LevelFault
+starting σ b = cond (may_start σ b) (Ok (started σ b)) (Err MayNotFollow)
 
 -- the variable v bound at the present level
 abbrev pub bind_to : ℕ → Built → Built
@@ -82,6 +93,10 @@ adding l b =
 -- the clause is whole
 abbrev pub closed : Built → Built
 closed b = record { variables = b.variables; first = b.first; levels = b.levels; bound = b.bound; clauses = b.clauses ++ b.pending ∷ []; pending = []; literals = b.literals }
+
+-- there are at most 512 clauses
+abbrev pub ending : Built → Result Built ClauseFault
+ending b = cond (nat_lt (length b.clauses) 512) (Ok (closed b)) (Err TooManyClauses)
 
 -- what a call returns, and what it leaves: a refusal changes nothing
 abbrev pub outcome : {E : Type 0} → Result Built E → Result (Unit {0}) E

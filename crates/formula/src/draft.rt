@@ -1,13 +1,14 @@
 // A formula while it is built, as a reader meets its parts: levels, bound variables, clauses.
-ghost use Rattle.std.specs.Prelude.{◌≡◌, ◌<◌, true, false, length, if◌then◌else◌, MatchOption, nat_lt};
-ghost use Rattle.formula.specs.Built.{built, blank, empty_level, last_side, may_start, started, binding, adding, closed, outcome, leaves, ends_well, may_finish};
+ghost use Rattle.std.specs.Prelude.{◌≡◌, ◌<◌, true, false, MatchOption};
+ghost use Rattle.formula.specs.Built.{built, blank, empty_level, last_side, may_start, starting, binding, adding, ending, outcome, leaves, ends_well, may_finish};
 ghost use Rattle.formula.specs.Laid.{Limits, Ordered, Ends, Declared, Leveled, AllBound, Filled};
 
-use crate::faults::{BindFault, LiteralFault};
+use crate::faults::{BindFault, ClauseFault, LevelFault, LiteralFault};
 use crate::formula::Formula;
 use crate::limits::{MAX_CLAUSES, MAX_LEVELS, MAX_LITERALS, MAX_VARIABLES};
 use crate::parts::Parts;
 use crate::side::Side;
+use arrayvec::ArrayVec;
 
 #[derive(Drop)]
 pub struct Draft {
@@ -29,16 +30,16 @@ impl Draft {
         if variables > MAX_VARIABLES {
             return None;
         }
+        let mut ends = ArrayVec::new();
+        ends.push(0);
         Some(Draft {
             parts: Parts {
                 variables,
                 first: Side::Ours,
                 levels: 0,
-                bound: [0; 257],
-                clauses: 0,
-                ends: [0; 513],
-                count: 0,
-                literals: [0; 4096],
+                bound: [0; MAX_VARIABLES + 1],
+                ends,
+                literals: ArrayVec::new(),
             },
         })
     }
@@ -61,35 +62,30 @@ impl Draft {
     pub fn last_side(&self) -> Option<Side>
         ensures { result ≡ last_side (built self.now.parts) }
     {
-        if self.parts.levels == 0 {
-            return None;
-        }
-        Some(self.parts.side(self.parts.levels))
+        (self.parts.levels > 0).then(|| self.parts.side(self.parts.levels))
     }
 
     fn may_start(&self, side: Side) -> bool
         ensures { result ≡ may_start side (built self.now.parts) }
     {
-        let levels = self.parts.levels;
-        if levels == 0 {
-            return true;
-        }
-        levels < MAX_LEVELS && side != self.parts.side(levels) && !self.level_is_empty()
+        self.last_side().is_none_or(|last| {
+            self.parts.levels < MAX_LEVELS && side != last && !self.level_is_empty()
+        })
     }
 
-    // One level more of a side; false, and nothing changed, where it may not follow.
-    pub fn start_level(&mut self, side: Side) -> bool
-        ensures started { result ≡ may_start side (built self.old.parts) }
-        ensures after { built self.new.parts ≡ (if result then started side (built self.old.parts) else built self.old.parts) }
+    // One level more of a side.
+    pub fn start_level(&mut self, side: Side) -> Result<(), LevelFault>
+        ensures started { result ≡ outcome (starting side (built self.old.parts)) }
+        ensures after { built self.new.parts ≡ leaves (built self.old.parts) (starting side (built self.old.parts)) }
     {
         if !self.may_start(side) {
-            return false;
+            return Err(LevelFault::MayNotFollow);
         }
         if self.parts.levels == 0 {
             self.parts.first = side;
         }
         self.parts.levels += 1;
-        true
+        Ok(())
     }
 
     // Binds a variable at the present level.
@@ -119,47 +115,39 @@ impl Draft {
         if self.parts.bound[variable] == 0 {
             return Err(LiteralFault::Unbound);
         }
-        if self.parts.count >= MAX_LITERALS {
+        if self.parts.literals.len() >= MAX_LITERALS {
             return Err(LiteralFault::TooMany);
         }
-        self.parts.literals[self.parts.count] = literal;
-        self.parts.count += 1;
+        self.parts.literals.push(literal);
         Ok(())
     }
 
-    // Makes the clause whole; false, and nothing changed, where there are 512.
-    pub fn end_clause(&mut self) -> bool
-        ensures ended { result ≡ nat_lt (length (built self.old.parts).clauses) 512 }
-        ensures after { built self.new.parts ≡ (if result then closed (built self.old.parts) else built self.old.parts) }
+    // Makes the clause whole.
+    pub fn end_clause(&mut self) -> Result<(), ClauseFault>
+        ensures ended { result ≡ outcome (ending (built self.old.parts)) }
+        ensures after { built self.new.parts ≡ leaves (built self.old.parts) (ending (built self.old.parts)) }
     {
-        let clauses = self.parts.clauses;
-        if clauses >= MAX_CLAUSES {
-            return false;
+        if self.parts.clauses() >= MAX_CLAUSES {
+            return Err(ClauseFault::TooMany);
         }
-        self.parts.ends[clauses + 1] = self.parts.count;
-        self.parts.clauses = clauses + 1;
-        true
+        self.parts.ends.push(self.parts.literals.len());
+        Ok(())
     }
 
     // Whether the present level is ours and binds something, or there is no level.
     fn ends_well(&self) -> bool
         ensures { result ≡ ends_well (built self.now.parts) }
     {
-        let levels = self.parts.levels;
-        if levels == 0 {
-            return true;
-        }
-        self.parts.side(levels) == Side::Ours && !self.level_is_empty()
+        self.last_side()
+            .is_none_or(|last| last == Side::Ours && !self.level_is_empty())
     }
 
     // The formula, where no clause is begun and the last level is ours and binds something.
     pub fn finish(self) -> Option<Formula>
         ensures { MatchOption result (may_finish (built self.parts) ≡ false) (λ f. (may_finish (built self.parts) ≡ true) × (f.parts ≡ self.parts)) }
     {
-        if self.parts.ends[self.parts.clauses] < self.parts.count {
-            return None;
-        }
-        if !self.ends_well() {
+        let whole = self.parts.ends[self.parts.clauses()];
+        if whole < self.parts.literals.len() || !self.ends_well() {
             return None;
         }
         Some(Formula { parts: self.parts })

@@ -1,5 +1,5 @@
 // A whole formula: read-only, with what every reader of it may rely on in its type.
-ghost use Rattle.std.specs.Prelude.{◌≡◌, ◌+◌, ◌-◌, ◌<◌, ◌≤◌, false, ◌&&◌, ◌⊎◌, length, take, drop, if◌then◌else◌, Some, None, MatchOption, nat_le, nat_lt};
+ghost use Rattle.std.specs.Prelude.{◌≡◌, ◌+◌, ◌-◌, ◌<◌, ◌≤◌, ◌&&◌, ◌⊎◌, length, if◌then◌else◌, Some, None, MatchOption, nat_le, nat_lt};
 ghost use Rattle.formula.specs.Lists.{keep, elem};
 ghost use Rattle.formula.specs.Sides.{side_at};
 ghost use Rattle.formula.specs.Found.{first_of};
@@ -9,14 +9,7 @@ ghost use Rattle.formula.specs.Model.{qbf, level_at, clause_at, bound_in};
 use crate::parts::Parts;
 use crate::side::Side;
 
-// The literals from one place to another.
-fn part(literals: &[i32], from: usize, to: usize) -> &[i32]
-    requires { (from ≤ to) × (to ≤ length literals.now) }
-    ensures { result.now ≡ take (to - from) (drop from literals.now) }
-{
-    &literals[from..to]
-}
-
+// Seven facts stand in Draft too: crates above speak of `formula.parts`, so no struct between them can hold these.
 #[derive(Drop)]
 pub struct Formula {
     pub(crate) parts: Parts,
@@ -32,6 +25,12 @@ pub struct Formula {
 }
 
 impl Formula {
+    fn has_level(&self, level: usize) -> bool
+        ensures { result ≡ (nat_le 1 level && nat_le level (length (qbf self.now.parts).levels)) }
+    {
+        1 <= level && level <= self.levels()
+    }
+
     // How many variables are declared.
     pub fn variables(&self) -> usize
         ensures value { result ≡ (qbf self.now.parts).variables }
@@ -45,7 +44,7 @@ impl Formula {
         ensures value { result ≡ length (qbf self.now.parts).clauses }
         ensures few { result ≤ 512 }
     {
-        self.parts.clauses
+        self.parts.clauses()
     }
 
     // How many levels there are.
@@ -60,28 +59,23 @@ impl Formula {
     pub fn side(&self, level: usize) -> Option<Side>
         ensures { result ≡ (if nat_le 1 level && nat_le level (length (qbf self.now.parts).levels) then Some (side_at (qbf self.now.parts).first level) else None) }
     {
-        if level >= 1 && level <= self.levels() {
-            Some(self.parts.side(level))
-        } else {
-            None
-        }
+        self.has_level(level).then(|| self.parts.side(level))
     }
 
     // Whether a level binds a variable.
     pub fn binds(&self, level: usize, variable: usize) -> bool
         ensures { result ≡ elem variable (level_at (qbf self.now.parts) level) }
     {
-        if level < 1 || level > self.parts.levels {
-            return false;
-        }
-        variable <= self.parts.variables && self.parts.bound[variable] == level
+        self.has_level(level)
+            && variable <= self.parts.variables
+            && self.parts.bound[variable] == level
     }
 
     // The first variable of a level after `after`: from 0 on, a level's variables one by one, ascending.
     pub fn next_variable(&self, level: usize, after: usize) -> Option<usize>
         ensures { result ≡ first_of (keep (nat_lt after) (level_at (qbf self.now.parts) level)) }
     {
-        if level < 1 || level > self.parts.levels {
+        if !self.has_level(level) {
             return None;
         }
         self.parts.next_variable(level, after)
@@ -91,22 +85,22 @@ impl Formula {
     pub fn clause(&self, number: usize) -> Option<&[i32]>
         ensures { MatchOption result (number < 1 ⊎ length (qbf self.now.parts).clauses < number) (λ c. (1 ≤ number) × (number ≤ length (qbf self.now.parts).clauses) × (c.now ≡ clause_at (qbf self.now.parts) number)) }
     {
-        if number < 1 || number > self.parts.clauses {
+        let before = number.checked_sub(1)?;
+        if before >= self.parts.clauses() {
             return None;
         }
-        let from = self.parts.ends[number - 1];
-        let to = self.parts.ends[number];
-        Some(part(&self.parts.literals, from, to))
+        let ends = self.parts.ends.as_slice();
+        let from = ends[before];
+        let to = ends[number];
+        Some(&self.parts.literals.as_slice()[from..to])
     }
 
     // How many variables are bound, over all levels.
     pub fn bound_variables(&self) -> usize
         ensures { result ≡ bound_in (qbf self.now.parts).levels }
     {
-        let mut total = 0;
-        for level in 1..self.parts.levels + 1 {
-            total += self.parts.count_variables(level);
-        }
-        total
+        (1..self.parts.levels + 1)
+            .map(|level| self.parts.count_variables(level))
+            .sum()
     }
 }

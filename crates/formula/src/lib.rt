@@ -10,7 +10,7 @@ mod side;
 mod theorems;
 
 pub use draft::Draft;
-pub use faults::{BindFault, LiteralFault};
+pub use faults::{BindFault, ClauseFault, LevelFault, LiteralFault};
 pub use formula::Formula;
 pub use limits::{MAX_CLAUSES, MAX_LEVELS, MAX_LITERALS, MAX_VARIABLES};
 pub use parts::Parts;

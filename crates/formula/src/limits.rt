@@ -6,6 +6,9 @@ pub const MAX_VARIABLES: usize = 256;
 // Clauses.
 pub const MAX_CLAUSES: usize = 512;
 
+// The start of the first clause, and the end of each.
+pub(crate) const MAX_ENDS: usize = MAX_CLAUSES + 1;
+
 // Levels: blocks of variables that one side chooses together.
 pub const MAX_LEVELS: usize = 32;
 

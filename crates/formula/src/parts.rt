@@ -1,12 +1,15 @@
 // What a formula consists of, in fixed arrays, and how it is looked up there.
-ghost use Rattle.std.specs.Prelude.{◌≡◌, ◌+◌, ◌-◌, ◌≤◌, length};
+ghost use Rattle.std.specs.Prelude.{◌≡◌, ◌+◌, ◌-◌, ◌<◌, ◌≤◌, length};
 ghost use Rattle.formula.specs.Lists.{keep, from};
 ghost use Rattle.formula.specs.Sides.{side_at};
 ghost use Rattle.formula.specs.Found.{first_of, binds_at, variables_of};
+ghost use Rattle.formula.specs.Built.{built, clauses_in};
 
+use crate::limits::{MAX_ENDS, MAX_LITERALS, MAX_VARIABLES};
 use crate::side::Side;
+use arrayvec::ArrayVec;
 
-#[derive(Clone, Copy)]
+#[derive(Drop)]
 pub struct Parts {
     // declared variables
     pub(crate) variables: usize,
@@ -14,18 +17,24 @@ pub struct Parts {
     pub(crate) first: Side,
     // how many levels there are
     pub(crate) levels: usize,
-    // the level that binds each variable, 0 while it is unbound; place 0 is not used
-    pub(crate) bound: [usize; 257],
-    // how many clauses are whole
-    pub(crate) clauses: usize,
-    // clause i lies in `literals` from ends[i - 1] to ends[i]
-    pub(crate) ends: [usize; 513],
-    // how many literals there are, those of a clause that is not whole yet included
-    pub(crate) count: usize,
-    pub(crate) literals: [i32; 4096],
+    // the level that binds each variable, or 0 and no Option: so specs/Built, on which contracts stand, has it; place 0 is not used
+    pub(crate) bound: [usize; MAX_VARIABLES + 1],
+    // 0, and where each whole clause ends: clause i lies in `literals` from ends[i - 1] to ends[i]
+    pub(crate) ends: ArrayVec<usize, MAX_ENDS>,
+    // the literals of the whole clauses, and of one that is not whole yet
+    pub(crate) literals: ArrayVec<i32, MAX_LITERALS>,
 }
 
 impl Parts {
+    // How many clauses are whole.
+    pub(crate) fn clauses(&self) -> usize
+        requires { 0 < length self.now.ends.items }
+        ensures value { result ≡ clauses_in self.now }
+        ensures count { result ≡ length (built self.now).clauses }
+    {
+        self.ends.len() - 1
+    }
+
     // The side of a level, from that of level 1.
     pub(crate) fn side(&self, level: usize) -> Side
         ensures { result ≡ side_at self.now.first level }
@@ -42,15 +51,8 @@ impl Parts {
         requires { self.now.variables ≤ 256 }
         ensures { result ≡ first_of (keep (binds_at self.now.bound level) (from (after + 1) (self.now.variables - after))) }
     {
-        if after >= self.variables {
-            return None;
-        }
-        for v in after + 1..self.variables + 1 {
-            if self.bound[v] == level {
-                return Some(v);
-            }
-        }
-        None
+        let next = after.checked_add(1)?;
+        (next..self.variables + 1).find(|v| self.bound[*v] == level)
     }
 
     // How many variables the level binds.
@@ -59,12 +61,8 @@ impl Parts {
         ensures count { result ≡ length (variables_of self.now.variables self.now.bound level) }
         ensures few { result ≤ 256 }
     {
-        let mut count = 0;
-        for v in 1..self.variables + 1 {
-            if self.bound[v] == level {
-                count += 1;
-            }
-        }
-        count
+        (1..self.variables + 1)
+            .filter(|v| self.bound[*v] == level)
+            .count()
     }
 }

@@ -15,12 +15,6 @@ use Rattle.reader.proofs.Bindings.{Free, set_all, length_set_all, free_split, fr
 use Rattle.reader.proofs.Leveling.{set_all_le, bound_to, level_is}
 
 -- sides
-same_is : (σ τ : Side) → same_side σ τ ≡ true → σ ≡ τ
-same_is Ours Ours e = refl
-same_is Ours Device e = let z : ◌≡◌ {A = ℕ} 0 1 = cc in absurd (omega arith)
-same_is Device Ours e = let z : ◌≡◌ {A = ℕ} 0 1 = cc in absurd (omega arith)
-same_is Device Device e = refl
-
 same_self : (σ : Side) → same_side σ σ ≡ true
 same_self Ours = refl
 same_self Device = refl

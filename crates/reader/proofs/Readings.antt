@@ -1,11 +1,9 @@
 -- How digits are read one after another. Assumes nothing.
-use Rattle.std.proofs.Common.{◌≡◌, ℕ, ◌+◌, ◌-◌, ◌*◌, ◌^◌, ◌<◌, ◌≤◌, true, false, List, length, get_or, drop, pos, ◌-ℤ◌, neg_ℤ, Some, None, ◌∙◌, pow-suc, add-one, arith, lit<, w32, to_z, of_z}
+use Rattle.std.proofs.Common.{◌≡◌, ℕ, ◌+◌, ◌-◌, ◌*◌, ◌^◌, ◌<◌, ◌≤◌, true, false, List, length, get_or, drop, Some, None, ◌∙◌, pow-suc, add-one, arith, lit<}
 use native.Mathlib.Nat.{pow-le-pow_right}
-use Rattle.std.proofs.lemmas.Int.{ints}
-use Rattle.std.specs.Option.{option_map}
 use Rattle.std.proofs.lemmas.List.{at_drop_more, at_drop_all}
-use Rattle.std.proofs.lemmas.Bool.{cond-true, cond-false, or_from, and_right, ne_eqb, eq-eqb, le-ltb}
-use Rattle.reader.specs.Bytes.{digit, read_on, plain, number_of}
+use Rattle.std.proofs.lemmas.Bool.{cond-true, cond-false, or_from, ne_eqb, le-ltb}
+use Rattle.reader.specs.Bytes.{digit, read_on, plain}
 
 pub read_more : (n : ℕ) (w : List ℕ) (i : ℕ) → i < length w → digit (get_or w i 0) ≡ true → read_on n (drop i w) ≡ read_on (n * 10 + (get_or w i 0 - 48)) (drop (i + 1) w)
 read_more n w i h d = at_drop_more (read_on n) w i 0 h ∙ cond-true _ _ _ d
@@ -22,14 +20,6 @@ ten_more n d i h k = rw add-one (omega (arith, pow-suc 10 i))
 pub ten_top : (n i j : ℕ) → n < 10 ^ i → i ≤ j → n < 10 ^ j
 ten_top n i j h k = omega (arith, pow-le-pow_right {n = 10} (lit< tt) k)
 
-pub plain_is : (w : List ℕ) → (length w ≡ 0 → ⊥) → length w ≤ 9 → (get_or w 0 0 ≡ 48 → ⊥) → plain w ≡ read_on 0 w
+pub plain_is : (w : List ℕ) → 0 < length w → length w ≤ 9 → (get_or w 0 0 ≡ 48 → ⊥) → plain w ≡ read_on 0 w
 plain_is w some few first =
-    cond-false _ _ _ (or_from _ _ (or_from _ _ (ne_eqb _ _ some) (le-ltb _ _ few)) (ne_eqb _ _ first))
-
-pub minus_is : (w : List ℕ) → get_or w 0 0 ≡ 45 → number_of w ≡ option_map (λ n. neg_ℤ (pos n)) (plain (drop 1 w))
-minus_is w h =
-    let not-zero : get_or w 0 0 ≡ 48 → ⊥ = λ e. omega arith in
-    cond-false _ _ _ (and_right _ _ (ne_eqb _ _ not-zero)) ∙ cond-true _ _ _ (eq-eqb _ _ h)
-
-pub neg_is : (n : ℕ) → n < 1000000000 → to_z w32 (of_z w32 (pos 0 -ℤ to_z w32 n)) ≡ neg_ℤ (pos n)
-neg_is n h = omega (arith, ints)
+    cond-false _ _ _ (or_from _ _ (or_from _ _ (ne_eqb (length w) 0 (λ e. omega arith)) (le-ltb _ _ few)) (ne_eqb _ _ first))

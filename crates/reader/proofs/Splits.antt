@@ -1,8 +1,8 @@
 -- The first word of a text is its longest front without a blank. Assumes nothing.
 use Rattle.std.proofs.Common.{◌≡◌, ℕ, suc, ◌+◌, ◌-◌, ◌<◌, ◌≤◌, Bool, true, false, List, [], ◌∷◌, length, get_or, take, drop, sym, refl, ap, ◌∙◌, subst, ⊎_elim, add-zero, one-add, arith}
 use Rattle.std.specs.List.{prefix_len}
-use Rattle.std.proofs.lemmas.List.{drop_more, drop-drop, drop_all}
-use Rattle.std.proofs.lemmas.List.Sums.{prefix_len-drop_yes}
+use Rattle.std.proofs.lemmas.List.{drop_more, drop-drop, drop_all, get_or-drop, length-drop}
+use Rattle.std.proofs.lemmas.List.Sums.{prefix_len-drop_yes, prefix_len-le-length, prefix_len_stops}
 use Rattle.std.proofs.lemmas.Bool.{cases_lt, cond-true, cond-false, not_from_true, not_from_false}
 use Rattle.reader.specs.Bytes.{blank, in_word}
 use Rattle.reader.specs.Words.{Word, onto, joins, words, left_at}
@@ -57,27 +57,37 @@ word_there t s h g =
 
 -- from the place a the next word lies between s and e, and both are a's text's end where there is none
 pub record Cut (t : List ℕ) (a s e : ℕ) : Type 0 where
+  pub from : a ≤ length t
   pub begins : s ≡ a + prefix_len blank (drop a t)
   pub ends : e ≡ s + prefix_len in_word (drop s t)
-  pub within : s ≤ length t
-  pub stops : s < length t → blank (get_or t s 0) ≡ false
 
 module _ {t : List ℕ} {a s e : ℕ} (cut : Cut t a s e) where
+  within : s ≤ length t
+  within = omega (arith, cut.from, cut.begins, prefix_len-le-length blank (drop a t), length-drop a t)
+
+  pub top : e ≤ length t
+  top = omega (arith, within, cut.ends, prefix_len-le-length in_word (drop s t), length-drop s t)
+
+  stops : s < length t → blank (get_or t s 0) ≡ false
+  stops h =
+      let k = prefix_len blank (drop a t) in
+      ap (λ i. blank (get_or t i 0)) cut.begins ∙ ap blank (sym (get_or-drop a t k 0)) ∙ prefix_len_stops blank (drop a t) 0 (omega (arith, cut.from, cut.begins, length-drop a t))
+
   pub skips : left_at t a ≡ left_at t s
   skips = past_gaps a (drop a t) ∙ ap (words (a + prefix_len blank (drop a t))) (drop-drop (prefix_len blank (drop a t)) a t) ∙ ap (left_at t) (sym cut.begins)
 
   pub at_end_lem : s ≡ e → s ≡ length t
   at_end_lem same =
       ⊎_elim
-      (λ h. absurd (omega (arith, cut.ends, prefix_len-drop_yes in_word t s 0 h (not_from_false _ (cut.stops h)))))
-      (λ h. omega (arith, cut.within))
+      (λ h. absurd (omega (arith, cut.ends, prefix_len-drop_yes in_word t s 0 h (not_from_false _ (stops h)))))
+      (λ h. omega (arith, within))
       (cases_lt s (length t))
 
   pub none_left : s ≡ e → left_at t a ≡ []
   none_left same = skips ∙ ap (words s) (drop_all s t (omega (arith, at_end_lem same)))
 
-  pub one_left : e ≤ length t → (s ≡ e → ⊥) → left_at t a ≡ record { bytes = take (e - s) (drop s t); place = s } ∷ left_at t e
-  one_left top apart =
-      let inside : s < length t = omega (arith, cut.ends) in
+  pub one_left : (s ≡ e → ⊥) → left_at t a ≡ record { bytes = take (e - s) (drop s t); place = s } ∷ left_at t e
+  one_left apart =
+      let inside : s < length t = omega (arith, cut.ends, top) in
       let long : prefix_len in_word (drop s t) ≡ e - s = omega (arith, cut.ends) in
-      skips ∙ word_there t s inside (cut.stops inside) ∙ ap (λ k. record { bytes = take k (drop s t); place = s } ∷ left_at t (s + k)) long ∙ ap (λ m. record { bytes = take (e - s) (drop s t); place = s } ∷ left_at t m) (omega (arith, cut.ends))
+      skips ∙ word_there t s inside (stops inside) ∙ ap (λ k. record { bytes = take k (drop s t); place = s } ∷ left_at t (s + k)) long ∙ ap (λ m. record { bytes = take (e - s) (drop s t); place = s } ∷ left_at t m) (omega (arith, cut.ends))

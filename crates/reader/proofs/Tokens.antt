@@ -1,13 +1,18 @@
 -- Reading goes by the next token and the words after it.
-use Rattle.std.proofs.Common.{◌≡◌, ℕ, suc, ◌<◌, Bool, true, false, cond, ◌&&◌, eqb, List, [], ◌∷◌, length, get_or, ℤ, nat_abs, Some, None, Ok, Option, Result, sym, refl, ap, ◌∙◌, arith}
+use Rattle.std.proofs.Common.{◌≡◌, ℕ, ◌<◌, Bool, true, false, cond, ◌&&◌, eqb, List, [], ◌∷◌, length, get_or, ℤ, Some, None, Ok, Err, ok_or, MatchOption, Option, Result, sym, refl, ap, ◌∙◌, arith}
 use Rattle.formula.specs.Game.{Qbf}
 use Rattle.formula.specs.Built.{Built}
 use Rattle.reader.specs.declared.faults.TextFault.{TextFault}
 use Rattle.reader.specs.Bytes.{lower, number_of}
-use Rattle.reader.specs.Words.{Word, Said, letter, number, other, end, place_of, by_number, first, rest}
-use Rattle.std.proofs.lemmas.Bool.{cond-true, eq-eqb}
-use Rattle.formula.specs.Built.{closed, adding}
-use Rattle.reader.specs.Text.{Place, clauses, and_then, due, clause_step, added_at, step, at_end, reading}
+use Rattle.reader.specs.Words.{Word, Said, letter, number, other, end, by_number, first, rest}
+use Rattle.std.proofs.lemmas.Bool.{cond-true, cond-false}
+use Rattle.formula.specs.declared.parts.Parts.{Parts}
+use Rattle.formula.specs.declared.formula.Formula.{Formula}
+use Rattle.formula.specs.Built.{built, may_finish}
+use Rattle.formula.specs.Model.{qbf}
+use Rattle.reader.specs.declared.faults.TextFault.TheVariants.{LastBlockDevice}
+use Rattle.reader.specs.Left.{formula_in}
+use Rattle.reader.specs.Text.{Place, and_then, step, at_end, reading}
 
 -- what reading comes to at a token, with the words after it
 abbrev pub by_token : ℕ → ℕ → Place → Built → Said → List Word → Result Qbf TextFault
@@ -44,15 +49,7 @@ fewer n (w ∷ ws) e = omega arith
 pub reading_at : (k n : ℕ) (p : Place) (b : Built) (ws ws' : List Word) (s : Said) → s ≡ first n ws → ws' ≡ rest ws → reading k n p b ws ≡ by_token k n p b s ws'
 reading_at k n p b ws ws' s e f = reading_token k n p b ws ∙ ap (λ t. by_token k n p b t (rest ws)) (sym e) ∙ ap (by_token k n p b s) (sym f)
 
--- a number of a clause
-number_step : (k n c : ℕ) (b : Built) (ws : List Word) (s : Said) (z : ℤ) → due s ≡ Ok z → by_token k n (clauses (suc c)) b s ws ≡ and_then (clause_step c z (place_of s) b) (λ next. reading k n next.0 next.1 ws)
-number_step k n c b ws (number y w at) z e = let y≡z : y ≡ z = cc in ap (λ x. and_then (clause_step c x at b) (λ next. reading k n next.0 next.1 ws)) y≡z
-number_step k n c b ws (letter d w at) z e = let f : ◌≡◌ {A = ℕ} 0 1 = cc in absurd (omega arith)
-number_step k n c b ws (other w at) z e = let f : ◌≡◌ {A = ℕ} 0 1 = cc in absurd (omega arith)
-number_step k n c b ws (end at) z e = let f : ◌≡◌ {A = ℕ} 0 1 = cc in absurd (omega arith)
-
--- the 0 that ends a clause
-pub clause_ends : (k n c : ℕ) (b : Built) (ws ws' : List Word) (s : Said) (z : ℤ) → s ≡ first n ws → ws' ≡ rest ws → due s ≡ Ok z → nat_abs z ≡ 0 → reading k n (clauses (suc c)) b ws ≡ reading k n (clauses c) (closed b) ws'
-clause_ends k n c b ws ws' s z e f d h =
-    reading_at k n (clauses (suc c)) b ws ws' s e f ∙ number_step k n c b ws' s z d
-    ∙ ap (λ r. and_then r (λ next. reading k n next.0 next.1 ws')) (cond-true (eqb (nat_abs z) 0) (Ok (clauses c, closed b)) (added_at (suc c) (place_of s) (adding z b)) (eq-eqb _ _ h))
+-- the end of a text after its last clause, by what the builder of the formula answers
+pub finished : (p : Parts) (r : Option Formula) (at : ℕ) → MatchOption r (may_finish (built p) ≡ false) (λ f. (may_finish (built p) ≡ true) × (f.parts ≡ p)) → cond (may_finish (built p)) (Ok (qbf p)) (Err (LastBlockDevice at)) ≡ formula_in (ok_or r (LastBlockDevice at))
+finished p None at not_yet = cond-false _ _ _ not_yet
+finished p (Some f) at (done, same) = cond-true _ _ _ done ∙ ap (λ q. Ok (qbf q)) (sym same)

@@ -1,9 +1,11 @@
 // The blocks of a text: a letter, variables, 0.
-ghost use Rattle.std.specs.Prelude.{◌≡◌, ◌≤◌, true, length, is_ok, None, MatchResult};
+ghost use Rattle.std.specs.Prelude.{◌≡◌, ◌≤◌, true, if◌then◌else◌, length, is_ok, None, Ok, Err, MatchResult};
 ghost use Rattle.reader.specs.Words.{said, first};
 ghost use Rattle.reader.specs.Text.{between, in_block, block_side, variable_step};
 ghost use Rattle.reader.specs.Left.{left, size, drawn};
 ghost use Rattle.reader.specs.Continues.{Goes, Fails, Stepped};
+ghost use Rattle.formula.specs.Built.{may_start, started};
+ghost use Rattle.reader.specs.declared.faults.TextFault.TheVariants.{BadBlock};
 
 use crate::faults::TextFault;
 use crate::numbers::{Numeral, due_number};
@@ -21,21 +23,24 @@ fn block_side(token: Token) -> Option<Side>
     }
 }
 
+// Starts the level of a block that begins at `at`.
+fn start(draft: &mut Draft, side: Side, at: usize) -> Result<(), TextFault>
+    ensures whole { (drawn draft.new).clauses ≡ (drawn draft.old).clauses }
+    ensures starts { Stepped in_block (if may_start side (drawn draft.old) then Ok (in_block, started side (drawn draft.old)) else Err (BadBlock at)) (drawn draft.new) result }
+{
+    draft.start_level(side).map_err(|_| TextFault::BadBlock(at))
+}
+
 // Binds a variable of a block.
 fn bind(draft: &mut Draft, variable: Numeral) -> Result<(), TextFault>
     ensures whole { (drawn draft.new).clauses ≡ (drawn draft.old).clauses }
     ensures binds { Stepped in_block (variable_step variable.value variable.at (drawn draft.old)) (drawn draft.new) result }
 {
-    if variable.value < 0 {
-        return Err(TextFault::OutOfRange(variable.at));
-    }
-    match draft.bind(variable.value as usize) {
-        Ok(()) => Ok(()),
-        Err(fault) => match fault {
-            BindFault::NoVariable => Err(TextFault::OutOfRange(variable.at)),
-            BindFault::BoundTwice => Err(TextFault::BoundTwice(variable.at)),
-        },
-    }
+    let value = usize::try_from(variable.value).map_err(|_| TextFault::OutOfRange(variable.at))?;
+    draft.bind(value).map_err(|fault| match fault {
+        BindFault::NoVariable => TextFault::OutOfRange(variable.at),
+        BindFault::BoundTwice => TextFault::BoundTwice(variable.at),
+    })
 }
 
 // The variables of a block, up to its 0.
@@ -70,9 +75,7 @@ pub(crate) fn read_blocks(words: &mut Words, draft: &mut Draft) -> Result<(), Te
         let Some(side) = block_side(token) else {
             return Ok(());
         };
-        if !draft.start_level(side) {
-            return Err(TextFault::BadBlock(token.offset()));
-        }
+        start(draft, side, token.offset())?;
         *words = ahead;
         read_block(words, draft)?;
     }

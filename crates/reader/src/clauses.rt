@@ -15,14 +15,13 @@ fn add(draft: &mut Draft, literal: Numeral) -> Result<(), TextFault>
     ensures whole { (drawn draft.new).clauses ≡ (drawn draft.old).clauses }
     ensures takes { (c : ℕ) → Stepped (clauses c) (added_at c literal.at (adding literal.value (drawn draft.old))) (drawn draft.new) result }
 {
-    match draft.add_literal(literal.value) {
-        Ok(()) => Ok(()),
-        Err(fault) => match fault {
-            LiteralFault::OutOfRange => Err(TextFault::OutOfRange(literal.at)),
-            LiteralFault::Unbound => Err(TextFault::Unbound(literal.at)),
-            LiteralFault::TooMany => Err(TextFault::TooManyLiterals(literal.at)),
-        },
-    }
+    draft
+        .add_literal(literal.value)
+        .map_err(|fault| match fault {
+            LiteralFault::OutOfRange => TextFault::OutOfRange(literal.at),
+            LiteralFault::Unbound => TextFault::Unbound(literal.at),
+            LiteralFault::TooMany => TextFault::TooManyLiterals(literal.at),
+        })
 }
 
 // The literals of a clause, up to its 0, which makes it whole.
@@ -35,7 +34,9 @@ fn read_clause(words: &mut Words, draft: &mut Draft) -> Result<(), TextFault>
     loop {
         let numeral = due_number(words.next())?;
         if numeral.value == 0 {
-            let _ = draft.end_clause();
+            let Ok(()) = draft.end_clause() else {
+                unreachable()
+            };
             return Ok(());
         }
         add(draft, numeral)?;

@@ -3,18 +3,21 @@ ghost use Rattle.std.specs.Prelude.{◌≡◌};
 ghost use Rattle.reader.specs.declared.faults.TextFault.TheVariants.{Word};
 ghost use Rattle.reader.specs.Faults.{word_number, word_offset, text_number, text_offset, text_layer};
 
+use std::error::Error;
+use std::fmt;
+
 // The longest text that is read, in bytes.
 pub const MAX_TEXT: usize = 65536;
 
 // Which part of the product found a fault.
-#[derive(Clone, Copy, PartialEq, Eq)]
+#[derive(Clone, Copy, PartialEq, Eq, Debug)]
 pub enum Layer {
     Words,
     Text,
     Game,
 }
 
-#[derive(Clone, Copy)]
+#[derive(Clone, Copy, PartialEq, Eq, Debug)]
 pub enum WordFault {
     // 1: the text is longer than 65,536 bytes
     TooLong,
@@ -22,7 +25,7 @@ pub enum WordFault {
     NoNumber(usize),
 }
 
-#[derive(Clone, Copy)]
+#[derive(Clone, Copy, PartialEq, Eq, Debug)]
 pub enum TextFault {
     Word(WordFault),
     // 2: a word other than p or cnf there, or none
@@ -118,3 +121,48 @@ impl TextFault {
         }
     }
 }
+
+// What is wrong and what to do about it, in one sentence.
+impl fmt::Display for WordFault {
+    fn fmt<W: fmt::Write>(&self, f: &mut fmt::Formatter<W>) -> fmt::Result {
+        f.write_str(match self {
+            WordFault::TooLong =>
+                "the text is longer than 65,536 bytes; shorten it (comments count too)",
+            WordFault::NoNumber(_) => {
+                "a number is due here: 0, or one to nine digits with no leading zero, with a minus where a literal is negated"
+            }
+        })
+    }
+}
+
+impl Error for WordFault {}
+
+// A fault of a word reads as that of the word.
+impl fmt::Display for TextFault {
+    fn fmt<W: fmt::Write>(&self, f: &mut fmt::Formatter<W>) -> fmt::Result {
+        let why = match self {
+            TextFault::Word(fault) => return fault.fmt(f),
+            TextFault::NoHeader(_) => {
+                "the header is due here: p cnf VARIABLES CLAUSES; comment lines begin with c and stand before it"
+            }
+            TextFault::BadCount(_) =>
+                "a count is due here: at most 256 variables, at most 512 clauses, none negative",
+            TextFault::OutOfRange(_) =>
+                "this is no declared variable: the header says how many there are",
+            TextFault::BadBlock(_) => {
+                "this block is empty, follows a block of the same side, or is the 33rd: join it with the block before, or drop it"
+            }
+            TextFault::LastBlockDevice(_) =>
+                "the last block is the device's (a): drop its variables, or end with a block of ours (e)",
+            TextFault::BoundTwice(_) => "this variable is bound twice: name it in one block, once",
+            TextFault::Unbound(_) => "no block binds this variable: add it to a block",
+            TextFault::TooManyLiterals(_) =>
+                "this is the 4,097th literal of the clauses: at most 4,096 are taken",
+            TextFault::WordAfterEnd(_) =>
+                "the last clause has ended: drop this word, or announce more clauses in the header",
+        };
+        f.write_str(why)
+    }
+}
+
+impl Error for TextFault {}

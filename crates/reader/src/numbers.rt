@@ -20,8 +20,6 @@ pub(crate) fn due_number(token: Token) -> Result<Numeral, WordFault>
 {
     match token {
         Token::Number(value, _, at) => Ok(Numeral { value, at }),
-        Token::Letter(_, _, at) | Token::Other(_, at) | Token::End(at) => {
-            Err(WordFault::NoNumber(at))
-        }
+        _ => Err(WordFault::NoNumber(token.offset())),
     }
 }

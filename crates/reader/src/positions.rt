@@ -2,7 +2,7 @@
 ghost use Rattle.std.specs.Prelude.{◌≡◌};
 ghost use Rattle.reader.specs.Lines.{position_at};
 
-#[derive(Clone, Copy)]
+#[derive(Clone, Copy, PartialEq, Eq, Debug)]
 pub struct Position {
     pub line: usize,
     pub column: usize,
@@ -12,15 +12,9 @@ pub struct Position {
 pub fn position_of(text: &[u8], offset: usize) -> Position
     ensures { result ≡ position_at text.now offset }
 {
-    let mut line = 1;
-    let mut column = 1;
-    for b in &text[0..offset.min(text.len())] {
-        if *b == b'\n' {
-            line += 1;
-            column = 1;
-        } else {
-            column += 1;
-        }
+    let before = &text[..offset.min(text.len())];
+    Position {
+        line: 1 + before.iter().filter(|b| **b == b'\n').count(),
+        column: 1 + before.iter().rev().take_while(|b| **b != b'\n').count(),
     }
-    Position { line, column }
 }

@@ -1,7 +1,7 @@
 // A whole text: comments, the header, the blocks, the clauses, and nothing after them.
-ghost use Rattle.std.specs.Prelude.{◌≡◌, ℕ, true, None, Err, MatchResult};
+ghost use Rattle.std.specs.Prelude.{◌≡◌, ℕ, None, Err, MatchResult};
 ghost use Rattle.reader.specs.Words.{said, first};
-ghost use Rattle.reader.specs.Text.{between, block_side, reading, headed, reads, of_device, after_device};
+ghost use Rattle.reader.specs.Text.{between, block_side, reading, headed, reads, after_device};
 ghost use Rattle.reader.specs.Text.{clauses as clauses'};
 ghost use Rattle.reader.specs.Left.{left, size, drawn, formula_in};
 ghost use Rattle.reader.specs.Grammar.{Writes};
@@ -26,23 +26,11 @@ fn after_device(token: Token, variables: usize, clauses: usize) -> TextFault
         return TextFault::LastBlockDevice(at);
     }
     match due_number(token) {
-        Ok(numeral) => {
-            if numeral.value.unsigned_abs() as usize > variables {
-                TextFault::OutOfRange(at)
-            } else {
-                TextFault::LastBlockDevice(at)
-            }
-        }
+        Ok(numeral) if numeral.value.unsigned_abs() as usize > variables => TextFault::OutOfRange(
+            at,
+        ),
+        Ok(_) => TextFault::LastBlockDevice(at),
         Err(fault) => TextFault::Word(fault),
-    }
-}
-
-fn is_device(side: Option<Side>) -> bool
-    ensures { result ≡ of_device side }
-{
-    match side {
-        Some(Side::Device) => true,
-        _ => false,
     }
 }
 
@@ -51,7 +39,7 @@ fn check_last_block(words: &Words, draft: &Draft, clauses: usize) -> Result<(), 
     requires { block_side (first (size words.now) (left words.now)) ≡ None }
     ensures { MatchResult result (λ _. reading clauses (size words.now) between (drawn draft.now) (left words.now) ≡ reading clauses (size words.now) (clauses' clauses) (drawn draft.now) (left words.now)) (λ e. reading clauses (size words.now) between (drawn draft.now) (left words.now) ≡ Err e) }
 {
-    if !is_device(draft.last_side()) {
+    if draft.last_side() != Some(Side::Device) {
         return Ok(());
     }
     let mut ahead = *words;
@@ -66,10 +54,7 @@ fn read_end(words: &mut Words, draft: Draft) -> Result<Formula, TextFault>
     ensures { (k : ℕ) → reading k (size words.old) (clauses' 0) (drawn draft) (left words.old) ≡ formula_in result }
 {
     match words.next() {
-        Token::End(at) => match draft.finish() {
-            Some(formula) => Ok(formula),
-            None => Err(TextFault::LastBlockDevice(at)),
-        },
+        Token::End(at) => draft.finish().ok_or(TextFault::LastBlockDevice(at)),
         token => Err(TextFault::WordAfterEnd(token.offset())),
     }
 }
@@ -96,6 +81,5 @@ pub fn read(text: &[u8]) -> Result<Formula, TextFault>
     if text.len() > MAX_TEXT {
         return Err(TextFault::Word(WordFault::TooLong));
     }
-    let mut words = Words::new(text);
-    read_words(&mut words)
+    read_words(&mut Words::new(text))
 }

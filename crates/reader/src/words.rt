@@ -1,39 +1,10 @@
 // The words of a text: tokens one after another, each a part of the caller's text with its offset.
-ghost use Rattle.std.specs.Prelude.{◌≡◌, ◌+◌, ◌<◌, ◌≤◌, false, length, drop, slice_index};
-ghost use Rattle.std.specs.List.{prefix_len};
-ghost use Rattle.reader.specs.Bytes.{blank, in_word};
+ghost use Rattle.std.specs.Prelude.{◌≡◌, ◌+◌, ◌<◌, ◌≤◌, length};
 ghost use Rattle.reader.specs.Words.{said, place_of, first, rest, left_at, PartOf};
 ghost use Rattle.reader.specs.Comments.{text_words};
 
-use crate::bytes::{is_blank, is_lower, number};
+use crate::bytes::{is_blank, number};
 use crate::comments::skip_comments;
-
-// The first place at or after `from` that has no blank.
-fn skip(text: &[u8], from: usize) -> usize
-    requires { from ≤ length text.now }
-    ensures place { result ≡ from + prefix_len blank (drop from text.now) }
-    ensures within { (from ≤ result) × (result ≤ length text.now) }
-    ensures stops { result < length text.now → blank (slice_index text.now result) ≡ false }
-{
-    let mut i = from;
-    while i < text.len() && is_blank(text[i]) {
-        i += 1;
-    }
-    i
-}
-
-// The first place at or after `from` that has a blank.
-fn word_end(text: &[u8], from: usize) -> usize
-    requires { from ≤ length text.now }
-    ensures place { result ≡ from + prefix_len in_word (drop from text.now) }
-    ensures within { (from ≤ result) × (result ≤ length text.now) }
-{
-    let mut i = from;
-    while i < text.len() && !is_blank(text[i]) {
-        i += 1;
-    }
-    i
-}
 
 // A word of the text with its offset, or the end of the text: a word of one small letter, a number, or another word.
 #[derive(Clone, Copy)]
@@ -81,19 +52,17 @@ impl<'a> Words<'a> {
         ensures part { PartOf self.old.text.now self.new.at result }
         ensures text { self.new.text.now ≡ self.old.text.now }
     {
-        let from = skip(self.text, self.at);
-        let to = word_end(self.text, from);
+        let rest = &self.text[self.at..];
+        let gap = rest.iter().take_while(|b| is_blank(**b)).count();
+        let word_len = rest[gap..].iter().take_while(|b| !is_blank(**b)).count();
+        let from = self.at + gap;
+        let to = from + word_len;
         self.at = to;
-        if from == to {
-            return Token::End(from);
-        }
         let word = &self.text[from..to];
-        if word.len() == 1 && is_lower(word[0]) {
-            return Token::Letter(word[0], word, from);
-        }
-        match number(word) {
-            Some(z) => Token::Number(z, word, from),
-            None => Token::Other(word, from),
+        match word {
+            [] => Token::End(from),
+            [b] if b.is_ascii_lowercase() => Token::Letter(*b, word, from),
+            _ => number(word).map_or(Token::Other(word, from), |z| Token::Number(z, word, from)),
         }
     }
 }

@@ -1,30 +1,21 @@
-use Rattle.std.proofs.Common.{◌≡◌, ◌+◌, ◌-◌, min, length, take, drop, sym, ap, ◌∙◌, arith, rules}
+use Rattle.std.proofs.Common.{◌≡◌, ◌+◌, ◌-◌, min, length, take, reverse, count_by, ap, ◌∙◌, ap₂, rules, tests}
+use Rattle.std.proofs.lemmas.List.{take_min}
+use Rattle.std.proofs.lemmas.List.Folds.{length-prefix_len}
+use Rattle.std.proofs.lemmas.Iterator.Adapters.{YieldsList-from_rev_slice}
+use Rattle.std.proofs.lemmas.Iterator.Consumers.{count_from_yields_List}
+use Rattle.std.proofs.lemmas.Iterator.Search.{YieldsList-from_take_while}
 use Rattle.reader.specs.Lines.{after}
-use Rattle.reader.proofs.Lining.{after_feed, after_byte, after_all, take_upto}
+use Rattle.reader.proofs.Lining.{feed, in_line, last_line, position_is}
 use Rattle.reader.proofs.positions.position_of.Goals as goal
-use Rattle.reader.proofs.positions.position_of.Goals.{then-b-eq10, else-b-eq10}
-
-pub loop-b-preserved : goal.loop-b-preserved
-loop-b-preserved c =
-    let bs = take (c.min.result - 0) c.args.text.now in
-    let i = c.loop-b.b-index in
-    elim c.if-b-eq10.branch [
-      | then-b-eq10 w ↦ (
-        omega (arith, w.line-is),
-        omega (arith, w.column-is),
-        ap (λ m. after m c.if-b-eq10.column (drop (i + 1) bs)) w.line-is ∙ ap (λ m. after (c.loop-b.line + 1) m (drop (i + 1) bs)) w.column-is
-            ∙ sym (after_feed c.loop-b.line c.loop-b.column bs i c.loop-b-test.true w.if-b-eq10.true) ∙ c.loop-b.invariant.2,
-      )
-      | else-b-eq10 w ↦ (
-        omega (arith, w.line-is),
-        omega (arith, w.column-is),
-        ap (λ m. after m c.if-b-eq10.column (drop (i + 1) bs)) w.line-is ∙ ap (λ m. after c.loop-b.line m (drop (i + 1) bs)) w.column-is
-            ∙ sym (after_byte c.loop-b.line c.loop-b.column bs i c.loop-b-test.true w.if-b-eq10.false) ∙ c.loop-b.invariant.2,
-      )
-    ]
 
 pub returns : goal.returns
 returns c =
     let bs = take (c.min.result - 0) c.args.text.now in
-    let upto : c.min.result ≡ min c.args.offset (length c.args.text.now) = search rules in
-    sym (after_all c.loop-b.line c.loop-b.column bs c.loop-b.b-index c.loop-b-test.false) ∙ c.loop-b.invariant.2 ∙ ap (after 1 1) (take_upto c.args.text.now c.args.offset c.min.result upto)
+    let upto : c.min.result - 0 ≡ min c.args.offset (length c.args.text.now) = search rules in
+    let line : c.count.result ≡ count_by feed bs = search rules in
+    let column : c.count-2.result ≡ length (take (last_line bs) (reverse bs)) =
+    count_from_yields_List c.take_while.result c.count-2.result c.count-2.ensures.ran
+    (YieldsList-from_take_while _ in_line (YieldsList-from_rev_slice bs (cc)) c.take_while.ensures.closure c.take_while.ensures.done (λ x b q k. search (rules, tests))) in
+    ap₂ (λ l k. record { line = 1 + l; column = 1 + k }) line (column ∙ length-prefix_len in_line (reverse bs))
+    ∙ position_is bs
+    ∙ ap (after 1 1) (ap (λ k. take k c.args.text.now) upto ∙ take_min c.args.offset c.args.text.now)

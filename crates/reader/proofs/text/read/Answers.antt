@@ -1,6 +1,4 @@
-use Rattle.std.proofs.Common.{◌≡◌, Err, rules}
-use Rattle.reader.specs.declared.faults.WordFault.TheVariants.{TooLong}
-use Rattle.reader.specs.declared.faults.TextFault.TheVariants.{Word}
+use Rattle.std.proofs.Common.{◌≡◌, rules}
 use Rattle.reader.specs.Text.{reads}
 use Rattle.reader.specs.Left.{formula_in}
 use Rattle.reader.proofs.ReadWrites.{written_or_not}
@@ -10,8 +8,3 @@ pub returns : goal.returns
 returns c =
     let is : formula_in c.read_words.result ≡ reads c.args.text.now = search rules in
     record { result = is; writes = written_or_not c.args.text.now c.read_words.result is }
-
-pub returns-then-text-gt-MAX_TEXT : goal.returns-then-text-gt-MAX_TEXT
-returns-then-text-gt-MAX_TEXT c =
-    let is : formula_in (Err (Word TooLong)) ≡ reads c.args.text.now = search rules in
-    record { result = is; writes = written_or_not c.args.text.now (Err (Word TooLong)) is }

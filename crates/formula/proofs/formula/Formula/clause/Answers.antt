@@ -1,36 +1,44 @@
-use Rattle.std.proofs.Common.{◌≡◌, ◌+◌, ◌-◌, ◌≤◌, length, get_or, take, drop, sym, refl, ap, ◌∙◌, inl, inr, arith, rules}
-use Rattle.formula.specs.Built.{clause_in}
+use Rattle.std.proofs.Common.{◌≡◌, ◌+◌, ◌-◌, ◌<◌, ◌≤◌, length, get_or, take, drop, sym, refl, ap, ◌∙◌, ap₂, arith, rules}
+use Rattle.formula.specs.Built.{clause_in, clauses_in}
 use Rattle.formula.specs.Model.{qbf}
-use Rattle.formula.proofs.Arrays.{count_clauses, ends_below}
+use Rattle.formula.proofs.Arrays.{ends_below}
 use Rattle.formula.proofs.Looked.{clause_there}
 use Rattle.formula.proofs.formula.Formula.clause.Goals as goal
-use Rattle.formula.proofs.formula.Formula.clause.Goals.{then-number-lt1-via-then-number-lt1, then-number-lt1-via-else-number-lt1+then-number-self}
+use Rattle.formula.proofs.formula.Formula.clause.Goals.{After-as_slice}
 
-pub returns-then-number-lt1 : goal.returns-then-number-lt1
-returns-then-number-lt1 c =
-    let p = c.args.self.now.parts in
-    elim c.then-number-lt1.branch [ then-number-lt1-via-then-number-lt1 w ↦ inl w.if-number-lt1.true | then-number-lt1-via-else-number-lt1+then-number-self w ↦ inr (omega (arith, w.if-number-self.true, count_clauses (clause_in p.literals p.ends) p.clauses)) ]
-
-pub part-requires : goal.part-requires
-part-requires c =
+-- where the clause begins and ends
+inside : (c : After-as_slice) → let es = c.as_slice-ends.result.now in (get_or es c.in_ok-before.before 0 ≤ get_or es c.args.number 0) × (get_or es c.args.number 0 ≤ length c.as_slice.result.now)
+inside c =
     let f = c.args.self.now in
     let p = f.parts in
-    let i = c.args.number in
-    let back : i - 1 + 1 ≡ i = omega arith in
-    let rise : get_or p.ends (i - 1) 0 ≤ get_or p.ends (i - 1 + 1) 0 = f.ordered (i - 1) (omega arith) in
-    let top : get_or p.ends (i - 1 + 1) 0 ≤ p.count = ends_below p.literals p.ends p.clauses p.count f.ordered f.ends.1 (i - 1) (omega arith) in
-    let all : p.count ≤ length p.literals = search rules in
-    let same : get_or p.ends (i - 1 + 1) 0 ≡ get_or p.ends i 0 = ap (λ n. get_or p.ends n 0) back in
+    let i = c.in_ok-before.before in
+    let es = c.as_slice-ends.result.now in
+    let there : i < clauses_in p = omega (arith, c.clauses.ensures.value) in
+    let next : i + 1 ≡ c.args.number = omega (arith, c.in_ok-before.ensures.1, c.in_ok-before.ensures.0) in
+    let rise : get_or p.ends.items i 0 ≤ get_or p.ends.items (i + 1) 0 = f.ordered i there in
+    let top : get_or p.ends.items (i + 1) 0 ≤ length p.literals.items = ends_below p.literals.items p.ends.items (clauses_in p) (length p.literals.items) f.ordered f.ends.1 i there in
+    let low : get_or p.ends.items i 0 ≡ get_or es i 0 = ap (λ xs. get_or xs i 0) (sym c.as_slice-ends.ensures.value) in
+    let high : get_or p.ends.items (i + 1) 0 ≡ get_or es c.args.number 0 = ap₂ (λ xs n. get_or xs n 0) (sym c.as_slice-ends.ensures.value) next in
+    let long : length c.as_slice.result.now ≡ length p.literals.items = ap length c.as_slice.ensures.value in
     (omega arith, omega arith)
+
+pub offset_bounds-as_slice-from : goal.offset_bounds-as_slice-from
+offset_bounds-as_slice-from c = let i = inside c in omega arith
+
+pub slice_bounds-result-end : goal.slice_bounds-result-end
+slice_bounds-result-end c = let i = inside c in search (rules, i)
 
 pub returns : goal.returns
 returns c =
     let p = c.args.self.now.parts in
-    let i = c.args.number in
-    let back : i - 1 + 1 ≡ i = omega arith in (
-      c.if-number-lt1.false,
-      omega (arith, c.if-number-self.false, count_clauses (clause_in p.literals p.ends) p.clauses),
-      c.part.ensures
-          ∙ ap (λ n. take (get_or p.ends n 0 - get_or p.ends (i - 1) 0) (drop (get_or p.ends (i - 1) 0) p.literals)) (sym back)
-          ∙ sym (clause_there (qbf p) (clause_in p.literals p.ends) p.clauses refl i c.if-number-lt1.false c.if-number-self.false),
+    let i = c.in_ok-before.before in
+    let n = c.args.number in
+    let next : i + 1 ≡ n = omega (arith, c.in_ok-before.ensures.1, c.in_ok-before.ensures.0) in
+    let back : i ≡ n - 1 = omega arith in (
+      omega arith,
+      omega (arith, c.clauses.ensures.count),
+      ap₂ (λ es ls. take (get_or es n 0 - get_or es i 0) (drop (get_or es i 0) ls)) c.as_slice-ends.ensures.value c.as_slice.ensures.value
+          ∙ ap (λ m. take (get_or p.ends.items m 0 - get_or p.ends.items i 0) (drop (get_or p.ends.items i 0) p.literals.items)) (sym next)
+          ∙ ap (clause_in p.literals.items p.ends.items) back
+          ∙ sym (clause_there (qbf p) (clause_in p.literals.items p.ends.items) (clauses_in p) refl n (omega arith) (omega (arith, c.clauses.ensures.value))),
     )

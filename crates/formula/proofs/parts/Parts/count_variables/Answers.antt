@@ -1,15 +1,14 @@
-use Rattle.std.proofs.Common.{arith}
-use Rattle.std.proofs.lemmas.Bool.{eq-eqb, ne_eqb}
+use Rattle.std.proofs.Common.{◌+◌, length, ap, ◌∙◌, arith, rules, tests}
+use Rattle.std.proofs.lemmas.Iterator.{YieldsList-from_range}
+use Rattle.std.proofs.lemmas.Iterator.Consumers.{count_from_yields_List, YieldsList-from_filter}
 use Rattle.formula.specs.Found.{binds_at}
-use Rattle.formula.proofs.Looked.{count_here, count_past}
+use Rattle.formula.proofs.Ranges.{filter_kept}
 use Rattle.formula.proofs.parts.Parts.count_variables.Goals as goal
-use Rattle.formula.proofs.parts.Parts.count_variables.Goals.{then-self-v, else-self-v}
 
-pub loop-v-preserved : goal.loop-v-preserved
-loop-v-preserved c =
-    let p = c.args.self.now in
-    let v = c.loop-v.v in
-    elim c.if-self-v.branch [
-      | then-self-v w ↦ (omega (arith, w.count-is, c.loop-v.invariant.0), omega (arith, w.count-is, count_here (binds_at p.bound c.args.level) v p.variables c.loop-v.count _ (omega arith) (eq-eqb _ _ w.if-self-v.true) c.loop-v.invariant.1))
-      | else-self-v w ↦ (omega (arith, w.count-is, c.loop-v.invariant.0), omega (arith, w.count-is, count_past (binds_at p.bound c.args.level) v p.variables c.loop-v.count _ (omega arith) (ne_eqb _ _ w.if-self-v.false) c.loop-v.invariant.1))
-    ]
+pub returns-clause-count : goal.returns-clause-count
+returns-clause-count c =
+    let p = binds_at c.args.self.now.bound c.args.level in
+    let n = c.args.self.now.variables in
+    count_from_yields_List c.filter.result c.count.result c.count.ensures.ran
+    (YieldsList-from_filter _ p (YieldsList-from_range 1 (n + 1) n (cc) (omega arith)) c.filter.ensures.closure (λ x b q k. search (rules, tests)))
+    ∙ ap length (filter_kept p 1 n)

@@ -1,13 +1,15 @@
-use Rattle.std.proofs.Common.{◌∙◌, arith}
-use Rattle.std.proofs.lemmas.Bool.{eq-eqb, ne_eqb}
-use Rattle.formula.specs.Found.{binds_at}
-use Rattle.formula.proofs.Ranges.{first_here, keep_past}
+use Rattle.std.proofs.Common.{◌+◌, ◌-◌, refl, ◌∙◌, ap₂, arith, rules, tests}
+use Rattle.std.proofs.lemmas.Iterator.{YieldsList-from_range}
+use Rattle.std.proofs.lemmas.Iterator.Search.{find_from_yields_List}
+use Rattle.formula.specs.Lists.{keep, from}
+use Rattle.formula.specs.Found.{first_of, binds_at}
+use Rattle.formula.proofs.Ranges.{first_found}
 use Rattle.formula.proofs.parts.Parts.next_variable.Goals as goal
 
-pub returns-then-self-v : goal.returns-then-self-v
-returns-then-self-v c =
-    first_here (binds_at c.args.self.now.bound c.args.level) c.loop-v.v c.args.self.now.variables _ (omega arith) (eq-eqb _ _ c.if-self-v.true) c.loop-v.invariant
-
-pub loop-v-preserved : goal.loop-v-preserved
-loop-v-preserved c =
-    c.loop-v.invariant ∙ keep_past (binds_at c.args.self.now.bound c.args.level) c.loop-v.v c.args.self.now.variables (omega arith) (ne_eqb _ _ c.if-self-v.false)
+pub returns : goal.returns
+returns c =
+    let p = binds_at c.args.self.now.bound c.args.level in
+    let i = c.in_ok-next.next in
+    let n = c.args.self.now.variables + 1 - i in
+    first_found p i n c.find.result (find_from_yields_List p _ _ c.find.result c.find.ensures.ran (YieldsList-from_range i (c.args.self.now.variables + 1) n (cc) refl) (λ x b q k. search (rules, tests)))
+    ∙ ap₂ (λ j k. first_of (keep p (from j k))) (omega arith) (omega arith)

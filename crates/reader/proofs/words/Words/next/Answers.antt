@@ -1,32 +1,53 @@
-use Rattle.std.proofs.Common.{◌≡◌, ℕ, ◌+◌, ◌-◌, ◌<◌, ◌≤◌, false, ◌&&◌, eqb, List, ◌∷◌, length, get_or, take, drop, sym, refl, ap, ◌∙◌, arith, w32, SFits, rules}
-use Rattle.std.proofs.lemmas.Int.{to_z-of_z}
-use Rattle.std.proofs.lemmas.Bool.{cond-true, cond-false, and_from, and_left, and_right, eq-eqb, ne_eqb}
+use Rattle.std.proofs.Common.{◌≡◌, ℕ, ◌+◌, ◌-◌, ◌≤◌, false, ◌&&◌, eqb, List, ◌∷◌, length, get_or, take, drop, sym, refl, ap, ◌∙◌, arith, rules, tests}
 use Rattle.std.specs.List.{prefix_len}
-use Rattle.reader.specs.Bytes.{blank, in_word, lower}
-use Rattle.reader.specs.Words.{first, rest, by_number, left_at, number, end}
-use Rattle.reader.proofs.Splits.{Cut, skips, at_end_lem, none_left, one_left}
+use Rattle.std.proofs.lemmas.Bool.{cond-true, cond-false, and_from, and_left, and_right, eq-eqb, ne_eqb}
+use Rattle.std.proofs.lemmas.List.{drop-drop, take_rest, length-take-le, length-drop}
+use Rattle.std.proofs.lemmas.List.Folds.{length-prefix_len}
+use Rattle.std.proofs.lemmas.Iterator.{YieldsList-from_slice}
+use Rattle.std.proofs.lemmas.Iterator.Consumers.{count_from_yields_List}
+use Rattle.std.proofs.lemmas.Iterator.Search.{YieldsList-from_take_while}
+use Rattle.reader.specs.Bytes.{blank, in_word, lower, number_of}
+use Rattle.reader.specs.Words.{said, first, rest, by_number, left_at, end}
+use Rattle.reader.proofs.Splits.{Cut, top, skips, at_end_lem, none_left, one_left}
 use Rattle.reader.proofs.words.Words.next.Goals as goal
-use Rattle.reader.proofs.words.Words.next.Goals.{else-word-eq1-via-then-word-eq1+else-is_lower, else-word-eq1-via-else-word-eq1}
+use Rattle.reader.proofs.words.Words.next.Goals.{After-count-word_len, in_default-via-in-len1+else-is_ascii_lowercase, in_default-via-else-word-lt2}
 
--- the word from s to e, as bytes
-abbrev word : List ℕ → ℕ → ℕ → List ℕ
-word t s e = take (e - s) (drop s t)
-
--- what skip and word_end say of the next word, from s to e
-module _ (t : List ℕ) (a s e : ℕ) (begins : s ≡ a + prefix_len blank (drop a t)) (ends : e ≡ s + prefix_len in_word (drop s t))
-    (within : s ≤ length t) (stops : s < length t → blank (get_or t s 0) ≡ false) where
-  cut : Cut t a s e
-  cut = record { begins = begins; ends = ends; within = within; stops = stops }
-
-  one : e ≤ length t → (s ≡ e → ⊥) → left_at t a ≡ record { bytes = word t s e; place = s } ∷ left_at t e
-  one = one_left cut
-
-pub returns-then-from-to : goal.returns-then-from-to
-returns-then-from-to c =
+cut : (c : After-count-word_len) → let a = c.args.self.now.at in Cut c.args.self.now.text.now a (a + c.count-gap.result) (a + c.count-gap.result + c.count-word_len.result)
+cut c =
     let t = c.args.self.now.text.now in
-    let skipped = c.skip-from.ensures in
-    let k = cut t c.args.self.now.at c.skip-from.result c.word_end-to.result skipped.place c.word_end-to.ensures.place skipped.within.1 skipped.stops in
-    let same = c.if-from-to.true in
+    let a = c.args.self.now.at in
+    let left = take (length t - a) (drop a t) in
+    let there : left ≡ drop a t = take_rest t a in
+    let gap : c.count-gap.result ≡ prefix_len blank (drop a t) =
+    count_from_yields_List c.take_while.result c.count-gap.result c.count-gap.ensures.ran
+    (YieldsList-from_take_while _ blank (YieldsList-from_slice left (cc)) c.take_while.ensures.closure c.take_while.ensures.done (λ x b q k. search (rules, tests)))
+    ∙ length-prefix_len blank left ∙ ap (prefix_len blank) there in
+    let s = a + c.count-gap.result in
+    let after = take (length left - c.count-gap.result) (drop c.count-gap.result left) in
+    let len : c.count-word_len.result ≡ prefix_len in_word (drop s t) =
+    count_from_yields_List c.take_while-2.result c.count-word_len.result c.count-word_len.ensures.ran
+    (YieldsList-from_take_while _ in_word (YieldsList-from_slice after (cc)) c.take_while-2.ensures.closure c.take_while-2.ensures.done (λ x b q k. search (rules, tests)))
+    ∙ length-prefix_len in_word after ∙ ap (prefix_len in_word) (take_rest left c.count-gap.result ∙ ap (drop c.count-gap.result) there ∙ drop-drop c.count-gap.result a t) in
+    record { from = c.args.self.now.ok; begins = ap (λ k. a + k) gap; ends = ap (λ k. s + k) len }
+
+-- the word, and how long it is
+abbrev word : After-count-word_len → List ℕ
+word c = let s = c.args.self.now.at + c.count-gap.result in take (s + c.count-word_len.result - s) (drop s c.args.self.now.text.now)
+
+long : (c : After-count-word_len) → length (word c) ≡ c.count-word_len.result
+long c =
+    let s = c.args.self.now.at + c.count-gap.result in
+    length-take-le (s + c.count-word_len.result - s) (drop s c.args.self.now.text.now) (omega (arith, top (cut c), length-drop s c.args.self.now.text.now)) ∙ omega arith
+
+-- what is left begins with the word, where it is not empty
+one : (c : After-count-word_len) → 1 ≤ length (word c) → let s = c.args.self.now.at + c.count-gap.result in left_at c.args.self.now.text.now c.args.self.now.at ≡ record { bytes = word c; place = s } ∷ left_at c.args.self.now.text.now (s + c.count-word_len.result)
+one c some = one_left (cut c) (λ e. omega (arith, long c))
+
+pub returns-in-empty : goal.returns-in-empty
+returns-in-empty c =
+    let t = c.args.self.now.text.now in
+    let k = cut (goal.at.returns-in-empty c).After-count-word_len in
+    let same : c.args.self.now.at + c.count-gap.result ≡ c.args.self.now.at + c.count-gap.result + c.count-word_len.result = omega (arith, c.in-empty.len_below, long (goal.at.returns-in-empty c).After-count-word_len) in
     let gone = none_left k same in
     let full = at_end_lem k same in
     record {
@@ -36,50 +57,30 @@ returns-then-from-to c =
       text = refl;
     }
 
-pub returns-then-is_lower : goal.returns-then-is_lower
-returns-then-is_lower c =
-    let skipped = c.skip-from.ensures in
-    let top = c.word_end-to.ensures.within in
-    let apart = c.if-from-to.false in
-    let w = one c.args.self.now.text.now c.args.self.now.at c.skip-from.result c.word_end-to.result skipped.place c.word_end-to.ensures.place skipped.within.1 skipped.stops top.1 apart in
-    record {
-      said = sym (ap (first _) w ∙ cond-true _ _ _ (and_from _ _ (eq-eqb _ _ c.if-word-eq1.true) (sym c.if-is_lower.ensures)));
-      left = sym (ap rest w);
-      part = (refl, omega arith, top.1);
-      text = refl;
-    }
+pub returns-in-len1-clause-said : goal.returns-in-len1-clause-said
+returns-in-len1-clause-said c =
+    let w = one (goal.at.returns-in-len1-clause-said c).After-count-word_len c.in-len1.len_at_least in
+    let short : length (word (goal.at.returns-in-len1-clause-said c).After-count-word_len) ≡ 1 = omega (arith, c.in-len1.len_at_least, c.in-len1.len_below) in
+    sym (ap (first _) w ∙ cond-true _ _ _ (and_from _ _ (eq-eqb _ _ short) (sym c.if-is_ascii_lowercase.ensures.value)))
 
-pub returns-in-Some : goal.returns-in-Some
-returns-in-Some c =
-    let t = c.args.self.now.text.now in
-    let s = c.skip-from.result in
-    let b = word t s c.word_end-to.result in
-    let skipped = c.skip-from.ensures in
-    let top = c.word_end-to.ensures.within in
-    let apart = c.if-from-to.false in
-    let w = one t c.args.self.now.at s c.word_end-to.result skipped.place c.word_end-to.ensures.place skipped.within.1 skipped.stops top.1 apart in
-    let fits : SFits w32 c.in-Some.z = search rules in
-    let plain : (eqb (length b) 1 && lower (get_or b 0 0)) ≡ false = elim c.else-word-eq1.branch [ else-word-eq1-via-then-word-eq1+else-is_lower v ↦ and_right _ _ (sym v.if-is_lower.ensures) | else-word-eq1-via-else-word-eq1 v ↦ and_left _ _ (ne_eqb _ _ v.if-word-eq1.false) ] in
-    record {
-      said = ap (λ z. number z b s) (to_z-of_z w32 _ fits) ∙ sym (ap (first _) w ∙ cond-false _ _ _ plain ∙ ap (λ o. by_number o (record { bytes = b; place = s })) (sym c.in-Some.ensures));
-      left = sym (ap rest w);
-      part = (refl, omega arith, top.1);
-      text = refl;
-    }
+pub returns-in-len1-clause-left : goal.returns-in-len1-clause-left
+returns-in-len1-clause-left c = sym (ap rest (one (goal.at.returns-in-len1-clause-left c).After-count-word_len c.in-len1.len_at_least))
 
-pub returns-in-None : goal.returns-in-None
-returns-in-None c =
-    let t = c.args.self.now.text.now in
-    let s = c.skip-from.result in
-    let b = word t s c.word_end-to.result in
-    let skipped = c.skip-from.ensures in
-    let top = c.word_end-to.ensures.within in
-    let apart = c.if-from-to.false in
-    let w = one t c.args.self.now.at s c.word_end-to.result skipped.place c.word_end-to.ensures.place skipped.within.1 skipped.stops top.1 apart in
-    let plain : (eqb (length b) 1 && lower (get_or b 0 0)) ≡ false = elim c.else-word-eq1.branch [ else-word-eq1-via-then-word-eq1+else-is_lower v ↦ and_right _ _ (sym v.if-is_lower.ensures) | else-word-eq1-via-else-word-eq1 v ↦ and_left _ _ (ne_eqb _ _ v.if-word-eq1.false) ] in
-    record {
-      said = sym (ap (first _) w ∙ cond-false _ _ _ plain ∙ ap (λ o. by_number o (record { bytes = b; place = s })) (sym c.in-None.ensures));
-      left = sym (ap rest w);
-      part = (refl, omega arith, top.1);
-      text = refl;
-    }
+pub returns-in_default-clause-said : goal.returns-in_default-clause-said
+returns-in_default-clause-said c =
+    let b = word (goal.at.returns-in_default-clause-said c).After-count-word_len in
+    let s = c.args.self.now.at + c.count-gap.result in
+    let some : 1 ≤ length b = elim c.in_default.branch [ in_default-via-in-len1+else-is_ascii_lowercase v ↦ v.in-len1.len_at_least | in_default-via-else-word-lt2 v ↦ search rules ] in
+    let w = one (goal.at.returns-in_default-clause-said c).After-count-word_len some in
+    let plain : (eqb (length b) 1 && lower (get_or b 0 0)) ≡ false = elim c.in_default.branch [
+      | in_default-via-in-len1+else-is_ascii_lowercase v ↦ and_right _ _ (sym v.if-is_ascii_lowercase.ensures.value)
+      | in_default-via-else-word-lt2 v ↦ let more : 2 ≤ length b = search rules in and_left _ _ (ne_eqb (length b) 1 (λ e. omega arith))
+    ] in
+    let is : said c.map_or.result ≡ by_number (number_of b) (record { bytes = b; place = s }) = search rules in
+    is ∙ sym (ap (first _) w ∙ cond-false _ _ _ plain)
+
+pub returns-in_default-clause-left : goal.returns-in_default-clause-left
+returns-in_default-clause-left c =
+    let b = word (goal.at.returns-in_default-clause-left c).After-count-word_len in
+    let some : 1 ≤ length b = elim c.in_default.branch [ in_default-via-in-len1+else-is_ascii_lowercase v ↦ v.in-len1.len_at_least | in_default-via-else-word-lt2 v ↦ search rules ] in
+    sym (ap rest (one (goal.at.returns-in_default-clause-left c).After-count-word_len some))
