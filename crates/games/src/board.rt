@@ -4,7 +4,7 @@ ghost use Rattle.layout.specs.Table.{Limits};
 
 use engine::Engine;
 use formula::Side;
-use game::{Progress, Table, Verdict, open, step};
+use game::{Table, Verdict, open, step};
 use layout::{Game, count_signals};
 use pool::Chain;
 use std::io;
@@ -55,11 +55,11 @@ pub(crate) fn make_turn<E: Engine>(
     pool: &mut [i32],
 ) -> io::Result<Turn> {
     match step(table, engine, pool) {
-        Ok(Progress::WentOn) => {
+        Ok(None) => {
             print!(rt; "step {number}: went on")?;
             Ok(Turn::On)
         }
-        Ok(Progress::Decided(verdict)) => {
+        Ok(Some(verdict)) => {
             let side = side_name(verdict.side());
             print!(rt; "step {number}: {side}")?;
             Ok(Turn::Won(verdict))

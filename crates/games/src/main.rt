@@ -6,7 +6,7 @@ mod board;
 use board::{Turn, make_turn, opened, play, print_numbers, print_record};
 use engine::{Counting, Engine, Tally};
 use formula::Side;
-use game::{NOT_ITS_VERDICT, Table, Verdict, next_move, retire};
+use game::{Table, Verdict, next_move, retire};
 use plan_check::check;
 use std::io;
 use trimmer::Trimmer;
@@ -116,9 +116,10 @@ fn print_retire(
             println!(rt; "{name}: retired")?;
             Ok(None)
         }
-        Err(back) => {
-            println!(rt; "{name}: refused {NOT_ITS_VERDICT}")?;
-            Ok(Some(back))
+        Err(refusal) => {
+            let number = refusal.number();
+            println!(rt; "{name}: refused {number}")?;
+            Ok(Some(refusal.verdict))
         }
     }
 }

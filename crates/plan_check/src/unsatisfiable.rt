@@ -19,13 +19,7 @@ fn says_no<E: Engine>(engine: &mut E, question: Question, answer: &mut [i32; 128
     requires { (question.signals ≤ E.Engine.most) × ((question.signals ≤ 1280) × (Proper (asked question))) }
     ensures { Decides result (Clash (clauses (asked question.entry)) (asked question.entry).assumed) }
 {
-    match engine.ask(question, answer) {
-        Ok(found) => match found {
-            Answer::Yes => false,
-            Answer::No(_) => true,
-        },
-        Err(_) => false,
-    }
+    matches!(engine.ask(question, answer), Ok(Answer::No(_)))
 }
 
 // Whether the chain of the level m, taken as one of the side, is unsatisfiable under what a question assumes where these clauses are satisfied.
@@ -40,14 +34,13 @@ pub(crate) fn is_unsatisfiable<E: Engine>(
     requires { (Readable game.now pool.now) × ((m < game.now.depth) × (signals_of game.now ≤ E.Engine.most)) }
     ensures { Decides result (Unsatisfiable (records pool.now (level_of game.now m).chain) (assumptions game.now.variables game.now.clauses side (assumed_clauses game.now.clauses side (λ i. slice_index_or satisfied.now i false)))) }
 {
-    let mut buffer = [0; 512];
-    let count = assumptions_of(game.variables, game.clauses, side, satisfied, &mut buffer);
+    let assumed = assumptions_of(game.variables, game.clauses, side, satisfied);
     let question = Question {
         signals: count_signals(game),
         pool,
         used: game.used,
         head: game.levels[m].chain,
-        assumptions: &buffer[0..count],
+        assumptions: assumed.as_slice(),
     };
     let mut answer = [0; 1280];
     says_no(engine, question, &mut answer)

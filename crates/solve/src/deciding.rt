@@ -1,6 +1,6 @@
 // Steps of a game until its verdict.
 use engine::Engine;
-use game::{Progress, StepFault, Table, Verdict, step};
+use game::{StepFault, Table, Verdict, step};
 
 // Steps end by themselves, but nothing says so to this loop: it counts them, up to one below this.
 const STEPS: u64 = 4_294_967_296;
@@ -17,8 +17,8 @@ pub(crate) enum Outcome {
 pub(crate) fn decide<E: Engine>(table: &mut Table, engine: &mut E, pool: &mut [i32]) -> Outcome {
     for number in 1..STEPS {
         match step(table, engine, pool) {
-            Ok(Progress::WentOn) => {}
-            Ok(Progress::Decided(verdict)) => return Outcome::Decided(verdict, number),
+            Ok(None) => {}
+            Ok(Some(verdict)) => return Outcome::Decided(verdict, number),
             Err(fault) => return Outcome::Refused(fault, number - 1),
         }
     }

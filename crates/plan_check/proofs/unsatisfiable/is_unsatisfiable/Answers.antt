@@ -15,21 +15,18 @@ says_no-requires g c =
     let game = c.args.game.now in
     let n = game.variables in
     let k = game.clauses in
-    let buffer = c.assumptions_of-count.new.buffer in
     let before : ℕ → Bool = λ i. get_or c.args.satisfied.now i false in
     let named = assumptions n k c.args.side (assumed_clauses k c.args.side before) in
-    let all : c.assumptions_of-count.result - 0 ≡ c.assumptions_of-count.result = omega arith in
-    let cut : take (c.assumptions_of-count.result - 0) buffer ≡ named = ap (λ j. take j buffer) all ∙ c.assumptions_of-count.ensures.list in
+    let cut : c.as_slice.result.now ≡ named = c.as_slice.ensures.value ∙ c.assumptions_of-assumed.ensures.list in
     let s : n + 2 * k ≡ c.count_signals.result = sym c.count_signals.ensures.value in
-    let long : c.assumptions_of-count.result ≤ length buffer = omega (arith, c.assumptions_of-count.array_long) in
-    let size : length (take (c.assumptions_of-count.result - 0) buffer) ≡ c.assumptions_of-count.result = ap (λ j. length (take j buffer)) all ∙ length-take-le c.assumptions_of-count.result buffer long in (
+    let size = ap length c.as_slice.ensures.value in (
       omega (arith, c.requires.1.1),
       (
         omega (arith, c.count_signals.ensures.few),
         record {
           sound = subst (λ x. Sound x c.args.pool.now game.used (level_of game c.args.m).chain) s (c.requires.0.sound.levels c.args.m c.requires.1.0).chain;
-          literals = subst (λ x. AllByRecursion (Literal x) (take (c.assumptions_of-count.result - 0) buffer)) s (subst (AllByRecursion (Literal (n + 2 * k))) (sym cut) (assumed_literals n k c.args.side (assumed c.args.side before) 0 k (omega arith)));
-          few = omega (arith, size, c.assumptions_of-count.ensures.few);
+          literals = subst (λ x. AllByRecursion (Literal x) c.as_slice.result.now) s (subst (AllByRecursion (Literal (n + 2 * k))) (sym cut) (assumed_literals n k c.args.side (assumed c.args.side before) 0 k (omega arith)));
+          few = omega (arith, size, c.assumptions_of-assumed.ensures.few);
         },
       ),
     )
@@ -39,11 +36,9 @@ returns g c =
     let game = c.args.game.now in
     let n = game.variables in
     let k = game.clauses in
-    let buffer = c.assumptions_of-count.new.buffer in
     let before : ℕ → Bool = λ i. get_or c.args.satisfied.now i false in
     let named = assumptions n k c.args.side (assumed_clauses k c.args.side before) in
-    let all : c.assumptions_of-count.result - 0 ≡ c.assumptions_of-count.result = omega arith in
-    let cut : take (c.assumptions_of-count.result - 0) buffer ≡ named = ap (λ j. take j buffer) all ∙ c.assumptions_of-count.ensures.list in
+    let cut : c.as_slice.result.now ≡ named = c.as_slice.ensures.value ∙ c.assumptions_of-assumed.ensures.list in
     let rs = records c.args.pool.now (level_of game c.args.m).chain in
     let told = c.says_no.ensures in
     (λ e. clash_unsatisfiable rs named (subst (Clash rs) cut (told.0 e)), λ u. told.1 (subst (Clash rs) (sym cut) (unsatisfiable_clash rs named u)))
