@@ -52,6 +52,7 @@ pub fn explain(
     ensures row { values.new ≡ back (top - mark) trail.now mark values.old }
     ensures blocked { Blocked (records_of chain.entry) marks.new values.new }
 {
+    // By place: the contract counts the places of the trail.
     for t in (mark..top).rev() {
         let i = trail[t];
         let x = values[i];

@@ -9,7 +9,7 @@ use crate::status::{Status, place_of, weigh};
 use pool::Chain;
 
 // Makes a number true, and notes its place on the trail.
-// Row, trail and marks come apart: the row is a part of the engine's memory that its caller reads after the search.
+// Row and trail are no struct: each function that takes it would have to promise besides that it keeps both references.
 pub fn assign(values: &mut [i32], trail: &mut [usize], top: usize, x: i32)
     requires { (Literal (length values.old) x) × (top < length trail.old) }
     ensures row { values.new ≡ slice_set values.old (unsigned_abs x - 1) x }
