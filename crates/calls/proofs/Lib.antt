@@ -1,3 +1,4 @@
 pub mod Kept
 pub mod Performed
+pub mod Seated
 pub mod Standing

@@ -1,7 +1,6 @@
 // Lists of calls over any number of games, and the law of all such lists.
 #![tactic(auto)]
 
-mod acting;
 mod acts;
 mod call;
 mod running;

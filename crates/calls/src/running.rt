@@ -5,7 +5,6 @@ ghost use Rattle.calls.specs.Places.{place_of};
 ghost use Rattle.calls.specs.Runs.{event_of, events_of};
 ghost use Rattle.calls.specs.Laws.{Continues};
 
-use crate::acting::act;
 use crate::call::{Call, Outcome};
 use crate::seat::Seat;
 use engine::Engine;
@@ -23,15 +22,7 @@ pub fn perform<E: Engine>(
     if call.table >= seats.len() {
         return Ok(Outcome::NoTable);
     }
-    let seat = &mut seats[call.table];
-    act(
-        heap,
-        engine,
-        &mut seat.table,
-        seat.pool.as_mut_slice(),
-        &mut seat.verdict,
-        call.action,
-    )
+    seats[call.table].act(heap, engine, call.action)
 }
 
 // A list of calls, one after another, with the outcome of each.

@@ -2,7 +2,7 @@ use Rattle.std.proofs.Common.{◌≡◌, length, drop, replicate, pos, sym, ◌�
 use Rattle.std.proofs.lemmas.List.{take_at}
 use Rattle.engine.specs.Asking.{asked}
 use Rattle.engine.specs.Meaning.{Answered}
-use Rattle.calls.proofs.acts.ask_at.Goals as goal
+use Rattle.calls.proofs.acts.ask.Goals as goal
 
 pub returns : goal.returns
 returns g c =
