@@ -10,6 +10,8 @@ trap 'rm -rf "$work"' EXIT
 below=$(sed -n 's/^game: *//p' crates.txt)
 mkdir -p "$work/crates/misuse/src"
 for name in $below game; do
+    # a crate of the toolchain has no folder here
+    [ -d "crates/$name" ] || continue
     mkdir -p "$work/crates/$name"
     cp -r "crates/$name/src" "$work/crates/$name/"
     if [ -d "crates/$name/specs" ]; then cp -r "crates/$name/specs" "$work/crates/$name/"; fi

@@ -6,10 +6,10 @@ ghost use Rattle.layout.specs.Places.{laid_as};
 ghost use Rattle.layout.specs.Opening.{level_chains};
 ghost use Rattle.layout.specs.Opened.{flags_of, new_level, new_levels, put_from};
 
-use crate::chains::write_level;
+use crate::chains::Block;
 use crate::game::Level;
 use crate::sizes::first_side;
-use formula::{Formula, Side};
+use formula::Formula;
 use pool::Place;
 
 // Which variables a level has.
@@ -24,13 +24,13 @@ fn level_flags(formula: &Formula, level: usize) -> [bool; 257]
     flags
 }
 
-// A level as it is at open.
-fn new_level(formula: &Formula, side: Side, level: usize, chain: usize) -> Level
-    ensures { result ≡ new_level side (level_at (qbf formula.now.parts) level) chain }
+// A level as it is at open, with the head of its clause chain.
+fn new_level(block: &Block, chain: usize) -> Level
+    ensures { result ≡ new_level block.now.side (level_at (qbf block.now.formula.now.parts) block.now.level) chain }
 {
     Level {
-        side,
-        variables: level_flags(formula, level),
+        side: block.side,
+        variables: level_flags(block.formula, block.level),
         chain,
         entries: 0,
         satisfied: [false; 512],
@@ -57,8 +57,14 @@ pub(crate) fn write_levels(
             head: 0,
             used: place.used,
         };
-        place = write_level(formula, side, m + 1, m + 1 == count, pool, begun);
-        levels[m] = new_level(formula, side, m + 1, place.head);
+        let block = Block {
+            formula,
+            side,
+            level: m + 1,
+            last: m + 1 == count,
+        };
+        place = block.write(pool, begun);
+        levels[m] = new_level(&block, place.head);
         side = side.other();
     }
     place

@@ -36,44 +36,6 @@ fn is_at(formula: &Formula, level: usize, literal: i32) -> bool
     formula.binds(level, literal.unsigned_abs() as usize)
 }
 
-// The literals that a clause has at a level.
-pub(crate) fn literals_on(formula: &Formula, level: usize, clause: usize) -> ArrayVec<i32, 4098>
-    requires { clause < length (qbf formula.now.parts).clauses }
-    ensures literals { result.items ≡ literals_on (qbf formula.now.parts).clauses (level_at (qbf formula.now.parts) level) clause }
-    ensures few { array_vec_len result ≤ 4096 }
-{
-    let Some(literals) = formula.clause(clause + 1) else {
-        unreachable()
-    };
-    let mut found = ArrayVec::new();
-    for l in literals {
-        if is_at(formula, level, *l) {
-            found.push(*l);
-        }
-    }
-    found
-}
-
-// The record of a clause at our level.
-pub(crate) fn our_record(
-    formula: &Formula,
-    level: usize,
-    last: bool,
-    clause: usize,
-) -> ArrayVec<i32, 4098>
-    requires { clause < length (qbf formula.now.parts).clauses }
-    ensures numbers { result.items ≡ our_record (qbf formula.now.parts).clauses (qbf formula.now.parts).variables (level_at (qbf formula.now.parts) level) last clause }
-    ensures few { array_vec_len result ≤ 4098 }
-{
-    let mut record = literals_on(formula, level, clause);
-    let variables = formula.variables();
-    record.push(t_signal(variables, clause));
-    if !last {
-        record.push(b_signal(variables, formula.clauses(), clause));
-    }
-    record
-}
-
 // The record that a literal of a clause makes at the device's level: it is false, or the clause is not left to the levels after.
 fn device_record(literal: i32, left: i32) -> [i32; 2]
     requires { (unsigned_abs literal ≤ 256) × (unsigned_abs left ≤ 1280) }
@@ -82,63 +44,85 @@ fn device_record(literal: i32, left: i32) -> [i32; 2]
     [-literal, -left]
 }
 
-// Writes the records of a clause at the device's level.
-fn write_device(
-    formula: &Formula,
-    level: usize,
-    clause: usize,
-    pool: &mut [i32],
-    place: Place,
-) -> Place
-    requires { (clause < length (qbf formula.now.parts).clauses) × (Enough (length pool.old) (laid_as pool.old place) (device_records (qbf formula.now.parts).clauses (qbf formula.now.parts).variables (level_at (qbf formula.now.parts) level) clause)) }
-    ensures { laid_as pool.new result ≡ laid (laid_as pool.old place) (device_records (qbf formula.now.parts).clauses (qbf formula.now.parts).variables (level_at (qbf formula.now.parts) level) clause) }
-{
-    let left = b_signal(formula.variables(), formula.clauses(), clause);
-    let literals = literals_on(formula, level, clause);
-    let mut place = place;
-    for l in literals.as_slice() {
-        place = lay(pool, place, &device_record(*l, left));
-    }
-    place
+// A level of a formula, as its clause chain is written.
+#[derive(Clone, Copy)]
+pub(crate) struct Block<'a> {
+    pub formula: &'a Formula,
+    pub side: Side,
+    // counted from 1
+    pub level: usize,
+    // whether no level follows
+    pub last: bool,
 }
 
-// Writes the records of a clause at a level.
-fn write_clause(
-    formula: &Formula,
-    side: Side,
-    level: usize,
-    last: bool,
-    clause: usize,
-    pool: &mut [i32],
-    place: Place,
-) -> Place
-    requires { (clause < length (qbf formula.now.parts).clauses) × (Enough (length pool.old) (laid_as pool.old place) (clause_records (qbf formula.now.parts).clauses (qbf formula.now.parts).variables side (level_at (qbf formula.now.parts) level) last clause)) }
-    ensures { laid_as pool.new result ≡ laid (laid_as pool.old place) (clause_records (qbf formula.now.parts).clauses (qbf formula.now.parts).variables side (level_at (qbf formula.now.parts) level) last clause) }
-{
-    match side {
-        Side::Ours => {
-            let record = our_record(formula, level, last, clause);
-            lay(pool, place, record.as_slice())
+impl Block<'_> {
+    // The literals that a clause has at the level.
+    pub(crate) fn literals_on(&self, clause: usize) -> ArrayVec<i32, 4098>
+        requires { clause < length (qbf self.now.formula.now.parts).clauses }
+        ensures literals { result.items ≡ literals_on (qbf self.now.formula.now.parts).clauses (level_at (qbf self.now.formula.now.parts) self.now.level) clause }
+        ensures few { array_vec_len result ≤ 4096 }
+    {
+        let Some(literals) = self.formula.clause(clause + 1) else {
+            unreachable()
+        };
+        let mut found = ArrayVec::new();
+        for l in literals {
+            if is_at(self.formula, self.level, *l) {
+                found.push(*l);
+            }
         }
-        Side::Device => write_device(formula, level, clause, pool, place),
+        found
     }
-}
 
-// Writes the clause chain that a level begins with.
-pub(crate) fn write_level(
-    formula: &Formula,
-    side: Side,
-    level: usize,
-    last: bool,
-    pool: &mut [i32],
-    place: Place,
-) -> Place
-    requires { Enough (length pool.old) (laid_as pool.old place) (level_records (qbf formula.now.parts).clauses (qbf formula.now.parts).variables side (level_at (qbf formula.now.parts) level) last) }
-    ensures { laid_as pool.new result ≡ laid (laid_as pool.old place) (level_records (qbf formula.now.parts).clauses (qbf formula.now.parts).variables side (level_at (qbf formula.now.parts) level) last) }
-{
-    let mut place = place;
-    for clause in 0..formula.clauses() {
-        place = write_clause(formula, side, level, last, clause, pool, place);
+    // The record of a clause at our level.
+    pub(crate) fn our_record(&self, clause: usize) -> ArrayVec<i32, 4098>
+        requires { clause < length (qbf self.now.formula.now.parts).clauses }
+        ensures numbers { result.items ≡ our_record (qbf self.now.formula.now.parts).clauses (qbf self.now.formula.now.parts).variables (level_at (qbf self.now.formula.now.parts) self.now.level) self.now.last clause }
+        ensures few { array_vec_len result ≤ 4098 }
+    {
+        let mut record = self.literals_on(clause);
+        let variables = self.formula.variables();
+        record.push(t_signal(variables, clause));
+        if !self.last {
+            record.push(b_signal(variables, self.formula.clauses(), clause));
+        }
+        record
     }
-    place
+
+    // Writes the records of a clause at the device's level.
+    fn write_device(&self, clause: usize, pool: &mut [i32], place: Place) -> Place
+        requires { (clause < length (qbf self.now.formula.now.parts).clauses) × (Enough (length pool.old) (laid_as pool.old place) (device_records (qbf self.now.formula.now.parts).clauses (qbf self.now.formula.now.parts).variables (level_at (qbf self.now.formula.now.parts) self.now.level) clause)) }
+        ensures { laid_as pool.new result ≡ laid (laid_as pool.old place) (device_records (qbf self.now.formula.now.parts).clauses (qbf self.now.formula.now.parts).variables (level_at (qbf self.now.formula.now.parts) self.now.level) clause) }
+    {
+        let left = b_signal(self.formula.variables(), self.formula.clauses(), clause);
+        let literals = self.literals_on(clause);
+        let mut place = place;
+        for l in literals.as_slice() {
+            place = lay(pool, place, &device_record(*l, left));
+        }
+        place
+    }
+
+    // Writes the records of a clause at the level.
+    fn write_clause(&self, clause: usize, pool: &mut [i32], place: Place) -> Place
+        requires { (clause < length (qbf self.now.formula.now.parts).clauses) × (Enough (length pool.old) (laid_as pool.old place) (clause_records (qbf self.now.formula.now.parts).clauses (qbf self.now.formula.now.parts).variables self.now.side (level_at (qbf self.now.formula.now.parts) self.now.level) self.now.last clause)) }
+        ensures { laid_as pool.new result ≡ laid (laid_as pool.old place) (clause_records (qbf self.now.formula.now.parts).clauses (qbf self.now.formula.now.parts).variables self.now.side (level_at (qbf self.now.formula.now.parts) self.now.level) self.now.last clause) }
+    {
+        match self.side {
+            Side::Ours => lay(pool, place, self.our_record(clause).as_slice()),
+            Side::Device => self.write_device(clause, pool, place),
+        }
+    }
+
+    // Writes the clause chain that the level begins with.
+    pub(crate) fn write(&self, pool: &mut [i32], place: Place) -> Place
+        requires { Enough (length pool.old) (laid_as pool.old place) (level_records (qbf self.now.formula.now.parts).clauses (qbf self.now.formula.now.parts).variables self.now.side (level_at (qbf self.now.formula.now.parts) self.now.level) self.now.last) }
+        ensures { laid_as pool.new result ≡ laid (laid_as pool.old place) (level_records (qbf self.now.formula.now.parts).clauses (qbf self.now.formula.now.parts).variables self.now.side (level_at (qbf self.now.formula.now.parts) self.now.level) self.now.last) }
+    {
+        let mut place = place;
+        for clause in 0..self.formula.clauses() {
+            place = self.write_clause(clause, pool, place);
+        }
+        place
+    }
 }

@@ -4,32 +4,34 @@ ghost use Rattle.formula.specs.Model.{qbf, level_at};
 ghost use Rattle.layout.specs.Laying.{words_for};
 ghost use Rattle.layout.specs.Opening.{clause_records, level_records, words_needed};
 
-use crate::chains::{literals_on, our_record};
+use crate::chains::Block;
 use formula::{Formula, Side};
 use pool::head_words;
 
-// The words of a clause's records at a level.
-fn clause_words(formula: &Formula, side: Side, level: usize, last: bool, clause: usize) -> usize
-    requires { clause < length (qbf formula.now.parts).clauses }
-    ensures words { result ≡ words_for (clause_records (qbf formula.now.parts).clauses (qbf formula.now.parts).variables side (level_at (qbf formula.now.parts) level) last clause) }
-    ensures few { result ≤ 20000 }
-{
-    match side {
-        Side::Ours => head_words() + our_record(formula, level, last, clause).len(),
-        Side::Device => (head_words() + 2) * literals_on(formula, level, clause).len(),
+impl Block<'_> {
+    // The words of a clause's records at the level.
+    fn clause_words(&self, clause: usize) -> usize
+        requires { clause < length (qbf self.now.formula.now.parts).clauses }
+        ensures words { result ≡ words_for (clause_records (qbf self.now.formula.now.parts).clauses (qbf self.now.formula.now.parts).variables self.now.side (level_at (qbf self.now.formula.now.parts) self.now.level) self.now.last clause) }
+        ensures few { result ≤ 20000 }
+    {
+        match self.side {
+            Side::Ours => head_words() + self.our_record(clause).len(),
+            Side::Device => (head_words() + 2) * self.literals_on(clause).len(),
+        }
     }
-}
 
-// The words of the clause chain that a level begins with.
-fn level_words(formula: &Formula, side: Side, level: usize, last: bool) -> usize
-    ensures words { result ≡ words_for (level_records (qbf formula.now.parts).clauses (qbf formula.now.parts).variables side (level_at (qbf formula.now.parts) level) last) }
-    ensures few { result ≤ 10240000 }
-{
-    let mut total = 0;
-    for clause in 0..formula.clauses() {
-        total += clause_words(formula, side, level, last, clause);
+    // The words of the clause chain that the level begins with.
+    fn words(&self) -> usize
+        ensures words { result ≡ words_for (level_records (qbf self.now.formula.now.parts).clauses (qbf self.now.formula.now.parts).variables self.now.side (level_at (qbf self.now.formula.now.parts) self.now.level) self.now.last) }
+        ensures few { result ≤ 10240000 }
+    {
+        let mut total = 0;
+        for clause in 0..self.formula.clauses() {
+            total += self.clause_words(clause);
+        }
+        total
     }
-    total
 }
 
 // The words of the formula's clauses.
@@ -65,7 +67,13 @@ pub fn words_needed(formula: &Formula) -> usize
     let mut side = first_side(formula);
     let mut total = 1 + formula_words(formula);
     for m in 0..levels {
-        total += level_words(formula, side, m + 1, m + 1 == levels);
+        let block = Block {
+            formula,
+            side,
+            level: m + 1,
+            last: m + 1 == levels,
+        };
+        total += block.words();
         side = side.other();
     }
     total

@@ -18,8 +18,8 @@ loop-m-init c =
       c.told-levels,
     )
 
-pub write_level-place-requires : goal.write_level-place-requires
-write_level-place-requires c =
+pub write-place-requires : goal.write-place-requires
+write-place-requires c =
     let q = qbf c.args.formula.now.parts in
     enough_level q (laid_as c.loop-m.pool c.loop-m.place) c.loop-m.side c.loop-m.m c.levels-count.result (length c.args.pool.now) (length c.loop-m.pool)
     (omega (arith, c.levels-count.ensures.value)) c.levels-count.ensures.value c.loop-m.auto.pool c.loop-m.invariant.2
@@ -29,12 +29,12 @@ loop-m-preserved c =
     let q = qbf c.args.formula.now.parts in
     let m = c.loop-m.m in
     let s = laid_as c.loop-m.pool c.loop-m.place in
-    let t = laid_as c.write_level-place.new.pool c.write_level-place.result in
+    let t = laid_as c.write-place.new.pool c.write-place.result in
     let here : m < length q.levels = omega (arith, c.levels-count.ensures.value) in
     let all = c.levels-count.ensures.value in (
-      chains_next q s t c.loop-m.side c.other-side.result m c.levels-count.result here all c.write_level-place.ensures c.other-side.ensures ∙ c.loop-m.invariant.0,
-      levels_next q s t c.loop-m.side c.other-side.result m c.levels-count.result here all c.write_level-place.ensures c.other-side.ensures c.loop-m.levels _ c.new_level.ensures ∙ c.loop-m.invariant.1,
-      enough_next_levels q s t c.loop-m.side c.other-side.result m c.levels-count.result here all c.write_level-place.ensures c.other-side.ensures (length c.args.pool.now) c.loop-m.invariant.2,
+      chains_next q s t c.loop-m.side c.other-side.result m c.levels-count.result here all c.write-place.ensures c.other-side.ensures ∙ c.loop-m.invariant.0,
+      levels_next q s t c.loop-m.side c.other-side.result m c.levels-count.result here all c.write-place.ensures c.other-side.ensures c.loop-m.levels _ c.new_level.ensures ∙ c.loop-m.invariant.1,
+      enough_next_levels q s t c.loop-m.side c.other-side.result m c.levels-count.result here all c.write-place.ensures c.other-side.ensures (length c.args.pool.now) c.loop-m.invariant.2,
       length-set c.loop-m.levels m c.new_level.result ∙ c.loop-m.invariant.3,
     )
 

@@ -22,7 +22,7 @@ loop-m-preserved c =
     let e = ap words_for_chains (levels_place q c.loop-m.side m here) in
     let last = ap (λ k. words_for (level_records q.clauses q.variables c.loop-m.side (level_at q (m + 1)) (eqb (m + 1) k))) L in
     let next = ap (λ σ. words_for_chains (level_chains q.clauses q.variables σ rest)) c.other-side.ensures in
-    let told = c.level_words-total.ensures in
+    let told = c.words-total.ensures in
     (omega (arith, e, last, next, told.words, c.loop-m.invariant.0), omega (arith, told.few, c.loop-m.invariant.1))
 
 pub returns : goal.returns

@@ -8,12 +8,12 @@ use Rattle.layout.specs.Laying.{laid, Enough}
 use Rattle.layout.specs.Places.{laid_as}
 use Rattle.layout.specs.Opening.{clause_records}
 use Rattle.layout.proofs.Room.{laid_append, enough_front, enough_rest, gather_place}
-use Rattle.layout.proofs.chains.write_level.Goals as goal
+use Rattle.layout.proofs.chains.Block.write.Goals as goal
 
 pub write_clause-place-requires : goal.write_clause-place-requires
 write_clause-place-requires c =
-    let q = qbf c.args.formula.now.parts in
-    let f = clause_records q.clauses q.variables c.args.side (level_at q c.args.level) c.args.last in
+    let q = qbf c.args.self.now.formula.now.parts in
+    let f = clause_records q.clauses q.variables c.args.self.now.side (level_at q c.args.self.now.level) c.args.self.now.last in
     let i = c.loop-clause.clause in
     let here : i < length q.clauses = omega (arith, c.clauses-clause-end.ensures.value) in
     let s = laid_as c.loop-clause.pool c.loop-clause.place in
@@ -25,8 +25,8 @@ write_clause-place-requires c =
 
 pub loop-clause-preserved : goal.loop-clause-preserved
 loop-clause-preserved c =
-    let q = qbf c.args.formula.now.parts in
-    let f = clause_records q.clauses q.variables c.args.side (level_at q c.args.level) c.args.last in
+    let q = qbf c.args.self.now.formula.now.parts in
+    let f = clause_records q.clauses q.variables c.args.self.now.side (level_at q c.args.self.now.level) c.args.self.now.last in
     let i = c.loop-clause.clause in
     let here : i < length q.clauses = omega (arith, c.clauses-clause-end.ensures.value) in
     let s = laid_as c.loop-clause.pool c.loop-clause.place in
@@ -39,7 +39,7 @@ loop-clause-preserved c =
 
 pub returns : goal.returns
 returns c =
-    let q = qbf c.args.formula.now.parts in
-    let f = clause_records q.clauses q.variables c.args.side (level_at q c.args.level) c.args.last in
+    let q = qbf c.args.self.now.formula.now.parts in
+    let f = clause_records q.clauses q.variables c.args.self.now.side (level_at q c.args.self.now.level) c.args.self.now.last in
     let s = laid_as c.loop-clause.pool c.loop-clause.place in
     sym (at_drop_all (λ l. laid s (gather f l)) (below (length q.clauses)) c.loop-clause.clause (omega (arith, length_from 0 (length q.clauses), c.clauses-clause-end.ensures.value))) ∙ c.loop-clause.invariant.0

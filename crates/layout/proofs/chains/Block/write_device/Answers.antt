@@ -12,7 +12,7 @@ use Rattle.layout.specs.Opening.{device_record}
 use Rattle.formula.proofs.ProperFormula.{proper}
 use Rattle.layout.proofs.Formulas.{level_bounds}
 use Rattle.layout.proofs.Room.{room_for, room_after, laid_after, at_place}
-use Rattle.layout.proofs.chains.write_device.Goals as goal
+use Rattle.layout.proofs.chains.Block.write_device.Goals as goal
 
 -- what is kept of a list passes the test
 passes : (p : ℤ → Bool) (ls : List ℤ) (i : ℕ) → i < length (keep p ls) → p (get_or (keep p ls) i (pos 0)) ≡ true
@@ -44,21 +44,21 @@ l_is xs i fits = to_z-of_z w32 (get_or xs i (pos 0)) fits
 
 pub device_record-requires : goal.device_record-requires
 device_record-requires c =
-    let f = c.args.formula.now in
+    let f = c.args.self.now.formula.now in
     let few = (proper f).few_clauses in
     let fits : SFits w32 c.b_signal-left.result = search rules in
     let xs = c.as_slice-l-items.result.now in
     let fits' : SFits w32 (get_or c.as_slice-l-items.result.now c.loop-l.l-index (pos 0)) = search rules in
     let is = b_is c.b_signal-left.result c.variables.result c.clauses.result f c.args.clause fits c.b_signal-left.ensures c.variables.ensures.value c.clauses.ensures.value in (
-      declared f c.args.level c.args.clause c.loop-l.l-index _ xs (c.as_slice-l-items.ensures.value ∙ c.literals_on-literals.ensures.literals) c.loop-l-test.true (l_is xs c.loop-l.l-index fits'),
+      declared f c.args.self.now.level c.args.clause c.loop-l.l-index _ xs (c.as_slice-l-items.ensures.value ∙ c.literals_on-literals.ensures.literals) c.loop-l-test.true (l_is xs c.loop-l.l-index fits'),
       subst (λ z. nat_abs z ≤ 1280) (sym is) (let a = (proper f).few_variables in omega arith),
     )
 
 -- what the loop writes next is the next record
 pub lay-place-requires : goal.lay-place-requires
 lay-place-requires c =
-    let f = c.args.formula.now in
-    let q = qbf c.args.formula.now.parts in
+    let f = c.args.self.now.formula.now in
+    let q = qbf c.args.self.now.formula.now.parts in
     let g = device_record q.clauses q.variables c.args.clause in
     let xs = c.as_slice-l-items.result.now in
     let i = c.loop-l.l-index in
@@ -73,8 +73,8 @@ lay-place-requires c =
 
 pub loop-l-preserved : goal.loop-l-preserved
 loop-l-preserved c =
-    let f = c.args.formula.now in
-    let q = qbf c.args.formula.now.parts in
+    let f = c.args.self.now.formula.now in
+    let q = qbf c.args.self.now.formula.now.parts in
     let g = device_record q.clauses q.variables c.args.clause in
     let xs = c.as_slice-l-items.result.now in
     let i = c.loop-l.l-index in

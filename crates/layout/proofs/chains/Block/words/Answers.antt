@@ -7,15 +7,15 @@ use Rattle.strategy.specs.Records.{gather}
 use Rattle.layout.specs.Laying.{words_for}
 use Rattle.layout.specs.Opening.{clause_records}
 use Rattle.layout.proofs.Room.{words_append, gather_place}
-use Rattle.layout.proofs.sizes.level_words.Goals as goal
+use Rattle.layout.proofs.chains.Block.words.Goals as goal
 
 pub clause_words-total-requires : goal.clause_words-total-requires
 clause_words-total-requires c = omega (arith, c.clauses-clause-end.ensures.value)
 
 pub loop-clause-preserved : goal.loop-clause-preserved
 loop-clause-preserved c =
-    let q = qbf c.args.formula.now.parts in
-    let f = clause_records q.clauses q.variables c.args.side (level_at q c.args.level) c.args.last in
+    let q = qbf c.args.self.now.formula.now.parts in
+    let f = clause_records q.clauses q.variables c.args.self.now.side (level_at q c.args.self.now.level) c.args.self.now.last in
     let i = c.loop-clause.clause in
     let here : i < length q.clauses = omega (arith, c.clauses-clause-end.ensures.value) in
     let rest = gather f (drop (i + 1) (below (length q.clauses))) in
@@ -25,7 +25,7 @@ loop-clause-preserved c =
 
 pub returns : goal.returns
 returns c =
-    let q = qbf c.args.formula.now.parts in
-    let f = clause_records q.clauses q.variables c.args.side (level_at q c.args.level) c.args.last in
+    let q = qbf c.args.self.now.formula.now.parts in
+    let f = clause_records q.clauses q.variables c.args.self.now.side (level_at q c.args.self.now.level) c.args.self.now.last in
     let e = at_drop_all (λ l. words_for (gather f l)) (below (length q.clauses)) c.loop-clause.clause (omega (arith, length_from 0 (length q.clauses), c.clauses-clause-end.ensures.value)) in
     record { words = omega (arith, e, c.loop-clause.invariant.0); few = omega (arith, c.loop-clause.invariant.1, c.clauses-clause-end.ensures.few) }

@@ -1,0 +1,13 @@
+use Rattle.std.proofs.Common.{◌≡◌, ◌+◌, ◌*◌, ◌≤◌, length, drop}
+use Rattle.formula.specs.Lists.{below}
+use Rattle.formula.specs.Model.{qbf, level_at}
+use Rattle.strategy.specs.Records.{gather}
+use Rattle.layout.specs.Laying.{words_for}
+use Rattle.layout.specs.Opening.{clause_records, level_records}
+use Rattle.layout.proofs.chains.Block.words.Given as goal
+
+abbrev pub invariant-loop-clause : goal.invariant-loop-clause
+invariant-loop-clause l =
+    (l.total + words_for (gather (clause_records (qbf l.self.formula.now.parts).clauses (qbf l.self.formula.now.parts).variables l.self.side (level_at (qbf l.self.formula.now.parts) l.self.level) l.self.last) (drop l.clause (below (length (qbf l.self.formula.now.parts).clauses))))
+    ≡ words_for (level_records (qbf l.self.formula.now.parts).clauses (qbf l.self.formula.now.parts).variables l.self.side (level_at (qbf l.self.formula.now.parts) l.self.level) l.self.last))
+    × (l.total ≤ 20000 * l.clause)
