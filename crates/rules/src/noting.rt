@@ -22,8 +22,7 @@ fn signed(negative: bool, base: usize, clause: usize) -> i32
     requires { (base ≤ 768) × (clause < 512) }
     ensures { result ≡ signed_signal negative base clause }
 {
-    let signal = (base + clause + 1) as i32;
-    if negative { -signal } else { signal }
+    engine::signed(base + clause, !negative)
 }
 
 // The signals of a set of clauses.

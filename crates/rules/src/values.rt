@@ -1,5 +1,5 @@
 // The values of a level's variables: as an engine gives them, and as an entry lists them.
-ghost use Rattle.std.specs.Prelude.{◌≡◌, ◌+◌, ◌≤◌, ◌++◌, length, pos, int_lt};
+ghost use Rattle.std.specs.Prelude.{◌≡◌, ◌+◌, ◌<◌, ◌≤◌, ◌++◌, length, pos, int_lt};
 ghost use Rattle.arrayvec.specs.ArrayVec.{array_vec_len};
 ghost use Rattle.layout.specs.Viewed.{values_in};
 ghost use Rattle.rules.specs.Values.{literal_of};
@@ -10,11 +10,10 @@ use layout::Level;
 
 // The literal of a variable that has this value.
 fn literal_of(variable: usize, value: bool) -> i32
-    requires { variable ≤ 256 }
+    requires { (0 < variable) × (variable ≤ 256) }
     ensures { result ≡ literal_of variable value }
 {
-    let literal = variable as i32;
-    if value { literal } else { -literal }
+    engine::signed(variable - 1, value)
 }
 
 // Puts the values that a level keeps behind the numbers of a record.
