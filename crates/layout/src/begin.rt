@@ -17,9 +17,8 @@ fn level_flags(formula: &Formula, level: usize) -> [bool; 257]
     ensures { result ≡ flags_of (level_at (qbf formula.now.parts) level) }
 {
     let mut flags = [false; 257];
-    // by index: of an array made by array::from_fn a proof does not know that each call left the closure as it was
-    for v in 0..257 {
-        flags[v] = formula.binds(level, v);
+    for (v, flag) in flags.iter_mut().enumerate() {
+        *flag = formula.binds(level, v);
     }
     flags
 }
