@@ -1,5 +1,5 @@
 -- An engine's answer, by its meaning, is an answer to the question about the present level.
-use Rattle.std.proofs.Common.{◌≡◌, ℕ, zero, suc, ◌-◌, ◌<◌, ◌≤◌, Bool, true, false, cond, ◌&&◌, ◌||◌, T, List, [], ◌∷◌, ◌++◌, get_or, ℤ, pos, negsuc, neg_ℤ, sym, refl, ap, ◌∙◌, subst, ap₂, inl, inr, ⊎_elim, arith}
+use Rattle.std.proofs.Common.{◌≡◌, ℕ, zero, suc, ◌-◌, ◌<◌, ◌≤◌, Bool, true, false, cond, ◌&&◌, ◌||◌, T, List, [], ◌∷◌, ◌++◌, get_or, ℤ, pos, negsuc, sym, refl, ap, ◌∙◌, subst, ap₂, inl, inr, ⊎_elim, arith}
 use mathlib.Core.List.{nil≢cons}
 use lib.Signed.{lt_z}
 use Rattle.std.proofs.lemmas.List.{get_or_append_left, get_or_push}
@@ -7,7 +7,6 @@ use Rattle.std.proofs.lemmas.Bool.{cases_lt, lt-ltb}
 use Rattle.formula.specs.Lists.{all, any, In, each}
 use Rattle.formula.specs.Proper.{Ascending}
 use Rattle.formula.specs.declared.side.Side.{Side}
-use Rattle.formula.specs.declared.side.Side.TheVariants.{Ours, Device}
 use Rattle.formula.proofs.Turned.{same_head, same_tail}
 use Rattle.engine.proofs.Values.{length_values}
 use Rattle.engine.specs.Truth.{literal, clause, chain}
@@ -15,9 +14,9 @@ use Rattle.engine.specs.Truth.{each as each_true}
 use Rattle.engine.specs.Meaning.{Part, none, leave, Clash, values, value_after}
 use Rattle.engine.specs.Meaning.{keep as take-it}
 use Rattle.rules.proofs.Stepping.{ascending_lower}
-use Rattle.strategy.specs.Signals.{signal}
 use Rattle.strategy.specs.Records.{holds, satisfies, Unsatisfiable, assumptions}
 use Rattle.strategy.specs.Questions.{clause_of, clauses_named}
+use Rattle.strategy.proofs.Numbers.{clause_back}
 
 -- the engine's words for what is true, and the theory's
 literal_is : (α : ℕ → Bool) (x : ℤ) → literal α x ≡ holds α x
@@ -73,10 +72,6 @@ value_said α s v rest low high =
     ∙ signed_value (α (suc k)) k ∙ ap α up
 
 -- no: the names are a part of the assumptions, in their order, and so their clauses ascend
-clause_back : (n k : ℕ) (σ : Side) (i : ℕ) → clause_of n k σ (neg_ℤ (pos (signal n k σ i))) ≡ i
-clause_back n k Ours i = omega arith
-clause_back n k Device i = omega arith
-
 module _ (n k : ℕ) (σ : Side) where
   pub part_ascends : {xs ys : List ℤ} → Part xs ys → (B : List ℕ) → ys ≡ assumptions n k σ B → (low : ℕ) → Ascending low k (each (λ i. suc i) B) → Ascending low k (each (λ i. suc i) (clauses_named n k σ xs))
   part_ascends none B e low a = tt

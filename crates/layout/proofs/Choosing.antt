@@ -1,5 +1,6 @@
 -- Values of a level, tested one variable after another.
 use Rattle.std.proofs.Common.{◌≡◌, ℕ, zero, suc, ◌+◌, ◌-◌, ◌≤◌, Bool, true, false, ◌&&◌, ◌||◌, eqb, List, [], ◌∷◌, ℤ, pos, negsuc, neg_ℤ, nat_abs, sym, refl, ap, ◌∙◌, arith}
+use Rattle.std.proofs.Math.Bool.{or-false, or_self}
 use Rattle.std.proofs.lemmas.Bool.{ne_eqb}
 use Rattle.std.proofs.lemmas.Bool.Decides.{nat_tests}
 use Rattle.formula.specs.Lists.{keep, from}
@@ -7,18 +8,10 @@ use Rattle.formula.specs.Game.{same}
 use Rattle.formula.specs.Backward.{is_choice}
 use Rattle.formula.proofs.Ranges.{keep_here, keep_past}
 
-or_itself : (b : Bool) → (b || b) ≡ b
-or_itself true = refl
-or_itself false = refl
-
-or_false : (b : Bool) → (b || false) ≡ b
-or_false true = refl
-or_false false = refl
-
 -- a literal of v has v as its magnitude
 pub literal_by : (l : ℤ) (v : ℕ) → (same l (pos v) || same l (neg_ℤ (pos v))) ≡ eqb (nat_abs l) v
-literal_by (pos m) zero = or_itself (eqb m 0)
-literal_by (pos m) (suc v) = or_false (eqb m (suc v))
+literal_by (pos m) zero = or_self (eqb m 0)
+literal_by (pos m) (suc v) = or-false (eqb m (suc v))
 literal_by (negsuc m) zero = sym (ne_eqb (suc m) 0 (λ e. omega arith))
 literal_by (negsuc m) (suc v) = grind (arith, nat_tests)
 

@@ -1,5 +1,6 @@
 -- Which literals are among the values that an assignment gives the variables of a level.
 use Rattle.std.proofs.Common.{◌≡◌, ℕ, zero, suc, ◌+◌, ◌<◌, ◌≤◌, Bool, true, false, cond, not, ◌&&◌, ◌||◌, eqb, ◌≢◌, ◌⊎◌, List, ◌∷◌, ℤ, pos, negsuc, neg_ℤ, nat_abs, sym, refl, ap, ◌∙◌, inl, inr, ⊎_elim, arith}
+use Rattle.std.proofs.Math.Bool.{or-false, and-true, and-false}
 use lib.Signed.{lt_z}
 use Rattle.std.proofs.lemmas.Bool.{cond_both, cases_eq, cases_lt, eq-eqb, ne_eqb, le-leb, false≢true}
 use Rattle.formula.specs.Lists.{keep, from}
@@ -11,25 +12,13 @@ abbrev pub agrees : ℤ → Bool → Bool
 agrees (pos m) b = b
 agrees (negsuc m) b = not b
 
-and_true : (b : Bool) → (b && true) ≡ b
-and_true true = refl
-and_true false = refl
-
-and_false : (b : Bool) → (b && false) ≡ false
-and_false true = refl
-and_false false = refl
-
 value_same : (l : ℤ) (v : ℕ) (b : Bool) → 0 < v → same l (cond b (pos v) (neg_ℤ (pos v))) ≡ eqb (nat_abs l) v && agrees l b
 value_same l zero b h = absurd (omega arith)
-value_same (pos m) (suc u) true h = sym (and_true (eqb m (suc u)))
-value_same (pos m) (suc u) false h = sym (and_false (eqb m (suc u)))
-value_same (negsuc m) (suc u) true h = sym (and_false (eqb (suc m) (suc u)))
+value_same (pos m) (suc u) true h = sym (and-true (eqb m (suc u)))
+value_same (pos m) (suc u) false h = sym (and-false (eqb m (suc u)))
+value_same (negsuc m) (suc u) true h = sym (and-false (eqb (suc m) (suc u)))
 value_same (negsuc m) (suc u) false h =
-    ⊎_elim (λ e. eq-eqb m u e ∙ sym (eq-eqb (suc m) (suc u) (omega arith))) (λ n. ne_eqb m u n ∙ sym (ne_eqb (suc m) (suc u) (λ e. n (omega arith)))) (cases_eq m u) ∙ sym (and_true (eqb (suc m) (suc u)))
-
-or_false : (b : Bool) → (b || false) ≡ b
-or_false true = refl
-or_false false = refl
+    ⊎_elim (λ e. eq-eqb m u e ∙ sym (eq-eqb (suc m) (suc u) (omega arith))) (λ n. ne_eqb m u n ∙ sym (ne_eqb (suc m) (suc u) (λ e. n (omega arith)))) (cases_eq m u) ∙ sym (and-true (eqb (suc m) (suc u)))
 
 module _ (α p : ℕ → Bool) (l : ℤ) where
   other_value : (v : ℕ) (vs : List ℕ) → 0 < v → nat_abs l ≢ v → has l (values_of α (v ∷ vs)) ≡ has l (values_of α vs)
@@ -56,7 +45,7 @@ module _ (α p : ℕ → Bool) (l : ℤ) where
       let e : nat_abs l ≡ i = omega arith in
       let past : has l (values_of α K) ≡ false = has_outside (suc i) m (omega arith) (inl (omega arith)) in
       cond_both (p i) (i ∷ K) K (λ vs. has l (values_of α vs) ≡ R)
-      (λ t. ap (λ b. b || has l (values_of α K)) (value_same l i (α i) h ∙ ap (λ b. b && agrees l (α i)) (eq-eqb (nat_abs l) i e)) ∙ ap (λ b. agrees l (α i) || b) past ∙ or_false (agrees l (α i))
+      (λ t. ap (λ b. b || has l (values_of α K)) (value_same l i (α i) h ∙ ap (λ b. b && agrees l (α i)) (eq-eqb (nat_abs l) i e)) ∙ ap (λ b. agrees l (α i) || b) past ∙ or-false (agrees l (α i))
       ∙ ap (λ v. agrees l (α v)) (sym e) ∙ sym (ap (λ b. b && agrees l (α (nat_abs l))) (ap p e ∙ t)))
       (λ f. past ∙ sym (ap (λ b. b && agrees l (α (nat_abs l))) (ap p e ∙ f))))
       (cases_lt i (nat_abs l))

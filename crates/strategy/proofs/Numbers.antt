@@ -21,7 +21,7 @@ in_elem i (j ∷ A) (inl e) = or_l (eqb i j) (elem i A) (subst (λ k. T (eqb i k
 in_elem i (j ∷ A) (inr h) = or_r (eqb i j) (elem i A) (in_elem i A h)
 
 -- the clause of an assumption
-clause_back : (n k : ℕ) (σ : Side) (i : ℕ) → clause_of n k σ (neg_ℤ (pos (signal n k σ i))) ≡ i
+pub clause_back : (n k : ℕ) (σ : Side) (i : ℕ) → clause_of n k σ (neg_ℤ (pos (signal n k σ i))) ≡ i
 clause_back n k Ours i = omega arith
 clause_back n k Device i = omega arith
 

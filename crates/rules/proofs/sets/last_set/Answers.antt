@@ -1,4 +1,5 @@
-use Rattle.std.proofs.Common.{◌≡◌, ℕ, Bool, true, false, not, ◌&&◌, ◌||◌, [], ◌∷◌, ◌++◌, length, get_or, sym, refl, ap, ◌∙◌, arith}
+use Rattle.std.proofs.Common.{◌≡◌, ℕ, Bool, true, false, not, ◌&&◌, ◌||◌, [], ◌∷◌, ◌++◌, length, get_or, sym, ap, ◌∙◌, arith}
+use Rattle.std.proofs.Math.Bool.{or-false}
 use Rattle.formula.specs.Lists.{keep, below}
 use Rattle.formula.specs.Game.{hits}
 use Rattle.formula.proofs.Ranges.{keep_same}
@@ -27,10 +28,6 @@ loop-i-preserved c =
     let in' : p i ≡ true = ap (λ b. b && not (get_or c.mark_hits.new.marks i false)) c.if-not-chosen-i.false ∙ ap not c.if-marks-i.false in
     (c.push.ensures.items ∙ ap (λ l. l ++ i ∷ []) c.loop-i.invariant.0 ∙ sym (kept_below p i in'), omega (arith, c.loop-i.invariant.1, c.push.ensures.len))
 
-or_false : (b : Bool) → (b || false) ≡ b
-or_false true = refl
-or_false false = refl
-
 pub returns-clause-clauses : goal.returns-clause-clauses
 returns-clause-clauses c =
     let g = c.args.game.now in
@@ -39,7 +36,7 @@ returns-clause-clauses c =
     let before : ℕ → Bool = λ j. get_or c.args.chosen.now.satisfied j false in
     let p : ℕ → Bool = λ j. before j && not (get_or c.mark_hits.new.marks j false) in
     let marked : (j : ℕ) → get_or c.mark_hits.new.marks j false ≡ hits C x j =
-    λ j. c.mark_hits.ensures j ∙ ap (λ b. hits C x j || b) (nothing_before j) ∙ or_false (hits C x j) in
+    λ j. c.mark_hits.ensures j ∙ ap (λ b. hits C x j || b) (nothing_before j) ∙ or-false (hits C x j) in
     let long : c.loop-i.i ≡ length C = omega (arith, length-onto (records c.args.pool.now g.formula) [], c.requires.1.count) in
     c.loop-i.invariant.0
     ∙ keep_same p (λ j. before j && not (hits C x j)) (below c.loop-i.i) (λ j. ap (λ b. before j && not b) (marked j))

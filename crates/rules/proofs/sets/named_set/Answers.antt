@@ -1,4 +1,5 @@
 use Rattle.std.proofs.Common.{◌≡◌, ℕ, ◌-◌, Bool, true, false, ◌||◌, List, [], ◌∷◌, ◌++◌, get_or, ℤ, pos, nat_abs, sym, refl, ap, ◌∙◌, arith, w32, SFits, rules}
+use Rattle.std.proofs.Math.Bool.{or-false}
 use Rattle.std.proofs.lemmas.List.{take_all}
 use Rattle.std.proofs.lemmas.Int.{to_z-of_z}
 use Rattle.formula.specs.Lists.{keep, each}
@@ -18,10 +19,6 @@ use Rattle.rules.proofs.sets.named_set.Goals as goal
 clause_by : (n k : ℕ) (σ : Side) (l : ℤ) (size base : ℕ) → size ≡ nat_abs l → base ≡ base_of n k σ → size - base - 1 ≡ clause_of n k σ l
 clause_by n k Ours l size base e b = omega arith
 clause_by n k Device l size base e b = omega arith
-
-or_false : (b : Bool) → (b || false) ≡ b
-or_false true = refl
-or_false false = refl
 
 all_kept : (l : List ℕ) → keep (λ i. true) l ≡ l
 all_kept [] = refl
@@ -60,7 +57,7 @@ returns-clause-clauses c =
     let A = clauses_named g.variables g.clauses c.args.side c.args.names.now in
     let p : ℕ → Bool = λ i. wanted c.args.side (get_or c.mark_hits.new.marks i false) in
     let marked : (i : ℕ) → get_or c.mark_hits.new.marks i false ≡ hits C x i =
-    λ i. c.mark_hits.ensures i ∙ ap (λ b. hits C x i || b) (nothing_before i) ∙ or_false (hits C x i) in
+    λ i. c.mark_hits.ensures i ∙ ap (λ b. hits C x i || b) (nothing_before i) ∙ or-false (hits C x i) in
     c.loop-name.invariant.0
     ∙ ap (λ l. keep p (each (clause_of g.variables g.clauses c.args.side) l)) (take_all c.loop-name.name-index c.args.names.now c.loop-name-test.false)
     ∙ keep_same p (λ i. wanted c.args.side (hits C x i)) A (λ i. ap (wanted c.args.side) (marked i))
