@@ -51,6 +51,7 @@ pub(crate) fn write_levels(
     let count = formula.levels();
     let mut side = first_side(formula);
     let mut place = place;
+    // by number: the formula gives a level by its number
     for m in 0..count {
         let begun = Place {
             head: 0,

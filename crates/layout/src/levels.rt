@@ -38,6 +38,7 @@ pub fn is_choice(game: &Game, m: usize, numbers: &[i32]) -> bool
     ensures { result ≡ is_choice numbers.now (variables_at game.now m) }
 {
     let mut rest = numbers;
+    // by number: a literal names its variable
     for v in 1..game.variables + 1 {
         if !game.levels[m].variables[v] {
             continue;

@@ -42,6 +42,7 @@ pub fn assumptions_of(
     ensures few { array_vec_len result ≤ clauses }
 {
     let mut assumed = ArrayVec::new();
+    // by number: an assumption names its clause
     for clause in 0..clauses {
         if !is_assumed(side, satisfied[clause]) {
             continue;

@@ -22,6 +22,7 @@ pub(crate) fn last_set(game: &Game, chosen: &Level, pool: &[i32]) -> ArrayVec<us
     let mut marks = [false; 512];
     mark_hits(game, chosen, pool, &mut marks);
     let mut set = ArrayVec::new();
+    // by number: the set has the numbers of clauses
     for i in 0..game.clauses {
         if !chosen.satisfied[i] || marks[i] {
             continue;

@@ -22,6 +22,7 @@ pub(crate) fn put_values(variables: usize, level: &Level, numbers: &mut ArrayVec
     ensures numbers { numbers.new.items ≡ numbers.old.items ++ values_in variables level.now }
     ensures few { array_vec_len numbers.new ≤ array_vec_len numbers.old + variables }
 {
+    // by number: a literal names its variable
     for v in 1..variables + 1 {
         if !level.variables[v] {
             continue;
@@ -43,6 +44,7 @@ pub(crate) fn read_level_values(variables: usize, flags: &[bool; 257], words: &[
     ensures { result ≡ flags_for (values_said variables flags.now words.now) }
 {
     let mut values = [false; 257];
+    // by number: the word of the variable v is at v - 1
     for v in 1..variables + 1 {
         if !flags[v] {
             continue;
