@@ -20,17 +20,7 @@ fn is_at(game: &Game, m: usize, literal: i32) -> bool
     ensures { result ≡ elem (unsigned_abs literal) (variables_at game.now m) }
 {
     let v = magnitude(literal);
-    if v < 1 || v > game.variables {
-        return false;
-    }
-    game.levels[m].variables[v]
-}
-
-// Whether two numbers are the same.
-fn is_same(x: i32, y: i32) -> bool
-    ensures { Decides result (x ≡ y) }
-{
-    x == y
+    v >= 1 && v <= game.variables && game.levels[m].variables[v]
 }
 
 // Whether a number is the opposite of a signal or of a literal.
@@ -46,20 +36,17 @@ fn is_made_of(game: &Game, m: usize, clause: &[i32], tail: &[i32], numbers: &[i3
     requires { (Limits game.now) × (m < 32) }
     ensures { Decides result (numbers.now ≡ literals_at (variables_at game.now m) clause.now ++ tail.now) }
 {
-    let mut at = 0;
+    let mut rest = numbers;
     for l in clause {
         if !is_at(game, m, *l) {
             continue;
         }
-        if at == numbers.len() {
-            return false;
+        match rest.split_first() {
+            Some((x, after)) if x == l => rest = after,
+            _ => return false,
         }
-        if !is_same(numbers[at], *l) {
-            return false;
-        }
-        at += 1;
     }
-    &numbers[at..] == tail
+    rest == tail
 }
 
 // Whether a number is the opposite of a literal that a clause has at the level m.
@@ -67,15 +54,9 @@ fn is_opposed(game: &Game, m: usize, clause: &[i32], x: i32) -> bool
     requires { (Limits game.now) × ((m < 32) × (((j : ℕ) → j < length clause.now → unsigned_abs (slice_index_or clause.now j (pos 0)) ≤ 1280))) }
     ensures { Decides result (In x (each neg_ℤ (literals_at (variables_at game.now m) clause.now))) }
 {
-    for l in clause {
-        if !is_at(game, m, *l) {
-            continue;
-        }
-        if is_opposite(x, *l) {
-            return true;
-        }
-    }
-    false
+    clause
+        .iter()
+        .any(|l| is_at(game, m, *l) && is_opposite(x, *l))
 }
 
 // Whether the numbers are the record of clause i at our level m.
@@ -103,13 +84,10 @@ fn is_device_record(game: &Game, m: usize, i: usize, clause: &[i32], numbers: &[
     requires { (Limits game.now) × ((m < game.now.depth) × ((i < game.now.clauses) × (((j : ℕ) → j < length clause.now → unsigned_abs (slice_index_or clause.now j (pos 0)) ≤ 1280)))) }
     ensures { Decides result (In numbers.now (each (λ l. neg_ℤ l ∷ neg_ℤ (pos (b_signal game.now.variables game.now.clauses i)) ∷ []) (literals_at (variables_at game.now m) clause.now))) }
 {
-    if numbers.len() != 2 {
+    let [x, y] = numbers else {
         return false;
-    }
-    if !is_opposite(numbers[1], b_signal(game.variables, game.clauses, i)) {
-        return false;
-    }
-    is_opposed(game, m, clause, numbers[0])
+    };
+    is_opposite(*y, b_signal(game.variables, game.clauses, i)) && is_opposed(game, m, clause, *x)
 }
 
 // Whether the numbers are a record of clause i at the level m, taken as one of the side.
