@@ -1,4 +1,5 @@
 pub mod Clashing
+pub mod Compared
 pub mod Covered
 pub mod Descending
 pub mod Entering

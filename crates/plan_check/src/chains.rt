@@ -28,6 +28,7 @@ pub(crate) fn chain_holds(game: &Game, pool: &[i32], m: usize, side: Side) -> bo
     requires { (Readable game.now pool.now) × (m < game.now.depth) }
     ensures { Decides result (RecordChecks (clauses_of game.now pool.now) game.now.variables side (variables_at game.now m) (records pool.now (level_of game.now m).chain) (shown_from game.now pool.now (m + 1))) }
 {
-    chain(game, pool, game.levels[m].chain)
-        .all(|numbers| record_holds(game, pool, m, side, numbers))
+    chain(game, pool, game.levels[m].chain).all(|numbers| record_holds(
+        game, pool, m, side, numbers,
+    ))
 }
