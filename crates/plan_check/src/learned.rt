@@ -1,21 +1,20 @@
 // Whether a record is that of a learned set which contains the set of an entry at the next level. Levels count from 0.
 ghost use Rattle.std.specs.Prelude.{◌≡◌, ◌+◌, ◌<◌, ◌≤◌, true, false, T, Decides, slice_index_or};
 ghost use Rattle.formula.specs.Lists.{all, Any, elem};
-ghost use Rattle.strategy.specs.Records.{entry_of};
 ghost use Rattle.strategy.specs.Check.{entries_at, is_learned_number, learned_set_of};
-ghost use Rattle.layout.specs.Table.{Limits, level_of};
-ghost use Rattle.layout.specs.Shown.{variables_at, entries_in};
+ghost use Rattle.layout.specs.Table.{Limits};
+ghost use Rattle.layout.specs.Shown.{entries_in};
 ghost use Rattle.layout.specs.Viewed.{signals_of};
-ghost use Rattle.soundness.specs.Soundness.{EntryForm, SoundEntries};
+ghost use Rattle.soundness.specs.Soundness.{SoundEntries};
 ghost use Rattle.plan_check.specs.Places.{shown_from};
 ghost use Rattle.plan_check.specs.Readable.{Readable};
 ghost use Rattle.std.specs.List.{AllByRecursion};
 ghost use Rattle.pool.specs.Records.{Literal};
 
-use crate::parts::split_entry;
-use crate::sets::{is_within, mark};
+use crate::sets::mark;
 use formula::Side;
 use layout::{Game, magnitude};
+use plan::fits;
 use soundness::chain;
 
 // Whether a number is the opposite of a signal b at our level, or such a signal at the device's.
@@ -42,20 +41,12 @@ fn are_learned_numbers(variables: usize, clauses: usize, side: Side, numbers: &[
         .all(|x| is_learned_number(variables, clauses, side, *x))
 }
 
-// Whether the set of an entry of the level m is one of flagged clauses.
-fn is_flagged(game: &Game, m: usize, flags: &[bool; 512], entry: &[i32]) -> bool
-    requires { (Limits game.now) × ((m < 32) × (EntryForm game.now.variables game.now.clauses (level_of game.now m).side (variables_at game.now m) entry.now)) }
-    ensures { result ≡ all (λ i. slice_index_or flags.now i false) (entry_of game.now.variables entry.now).set }
-{
-    is_within(game.variables, split_entry(game, m, entry).signals, flags)
-}
-
 // Whether some entry of the level m has a set of flagged clauses.
 pub(crate) fn is_entered(game: &Game, pool: &[i32], m: usize, flags: &[bool; 512]) -> bool
     requires { (Limits game.now) × ((m < 32) × (SoundEntries game.now pool.now m)) }
     ensures { Decides result (Any (λ e. T (all (λ i. slice_index_or flags.now i false) e.set)) (entries_in game.now pool.now m)) }
 {
-    chain(game, pool, game.levels[m].entries).any(|entry| is_flagged(game, m, flags, entry))
+    chain(game, pool, game.levels[m].entries).any(|entry| fits(game, m, Side::Ours, entry, flags))
 }
 
 // Whether the numbers are the record that the level m, taken as one of the side, learns with a set that contains the set of some entry at the next level.

@@ -1,18 +1,10 @@
 // Sets of clauses, as flags by their places: clause 1 is at place 0.
-ghost use Rattle.std.specs.Prelude.{◌≡◌, ℕ, suc, ◌-◌, ◌<◌, ◌≤◌, true, false, get_or, if◌then◌else◌, Decides, slice_index_or, unsigned_abs};
-ghost use Rattle.formula.specs.Lists.{all, elem};
+ghost use Rattle.std.specs.Prelude.{◌≡◌, ℕ, ◌<◌, ◌≤◌, true, false, if◌then◌else◌, Decides, slice_index_or};
+ghost use Rattle.formula.specs.Lists.{elem};
 ghost use Rattle.plan.specs.Fitting.{set_of};
-ghost use Rattle.plan_check.specs.Naming.{Behind};
+ghost use Rattle.plan.specs.Naming.{Behind};
 
-use layout::magnitude;
-
-// The place of the clause that a number names.
-fn place(base: usize, x: i32) -> usize
-    requires { base < unsigned_abs x }
-    ensures { result ≡ unsigned_abs x - suc base }
-{
-    magnitude(x) - base - 1
-}
+use plan::place;
 
 // Puts a value at each clause that the numbers name; the signals of the clauses come behind `base`.
 pub(crate) fn mark(base: usize, numbers: &[i32], value: bool, flags: &mut [bool; 512])
@@ -22,14 +14,6 @@ pub(crate) fn mark(base: usize, numbers: &[i32], value: bool, flags: &mut [bool;
     for x in numbers {
         flags[place(base, *x)] = value;
     }
-}
-
-// Whether each clause that the numbers name is flagged.
-pub(crate) fn is_within(base: usize, numbers: &[i32], flags: &[bool; 512]) -> bool
-    requires { (base ≤ 768) × (Behind base numbers.now) }
-    ensures { result ≡ all (λ i. get_or flags.now i false) (set_of base numbers.now) }
-{
-    numbers.iter().map(|x| place(base, *x)).all(|i| flags[i])
 }
 
 // Whether each of the first so many clauses is flagged.
