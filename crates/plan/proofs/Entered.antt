@@ -1,14 +1,19 @@
 -- Entries read off their records: signals first, then values; and the newest one that fits.
-use Rattle.std.proofs.Common.{◌≡◌, ℕ, zero, suc, ◌+◌, ◌-◌, ◌<◌, ◌≤◌, Bool, true, false, cond, ◌&&◌, ltb, leb, List, [], ◌∷◌, length, get_or, take, drop, ℤ, pos, nat_abs, sym, refl, ap, ◌∙◌, subst, ap₂, arith}
-use mathlib.Core.Option.{some}
-use Rattle.std.proofs.lemmas.List.{drop_more}
+use Rattle.std.proofs.Common.{◌≡◌, ℕ, zero, suc, ◌+◌, ◌<◌, ◌≤◌, Bool, true, false, cond, ◌&&◌, ltb, leb, List, [], ◌∷◌, length, get_or, take, drop, ℤ, pos, nat_abs, Option, Some, None, Bor, sym, refl, ap, ◌∙◌, subst, ap₂, arith}
+use mathlib.Core.Option.{none, some}
+use Rattle.std.specs.Option.{MatchOption}
+use Rattle.std.specs.List.{AllWithin, HoldsAt, FoldsTo}
+use Rattle.std.specs.Bool.{⊤}
+use Rattle.std.specs.Fn.{Mut, CalledAt}
+use Rattle.std.specs.Iterator.{YieldsThen}
+use Rattle.std.proofs.lemmas.Iterator.{YieldsList, first_from_find}
+use Rattle.std.proofs.lemmas.List.Elements.{All-from_recursion, All-get_or}
 use Rattle.std.proofs.lemmas.Bool.{and_parts, ltb-true, leb-true, cond-true, cond-false}
 use Rattle.formula.specs.Lists.{all, find, All, each}
 use Rattle.formula.specs.Proper.{Ascending}
 use Rattle.formula.specs.declared.side.Side.{Side}
 use Rattle.formula.specs.declared.side.Side.TheVariants.{Ours, Device}
 use Rattle.strategy.specs.Entries.{Entry, fits_when}
-use Rattle.strategy.specs.RecordedPlan.{values_in}
 use Rattle.strategy.specs.Records.{entry_of}
 use Rattle.strategy.specs.WellFormed.{ProperLevel}
 use Rattle.strategy.proofs.Numbers.{entry_read_back}
@@ -49,40 +54,6 @@ pub fits_by_set : (σ : Side) (s : ℕ → Bool) (e : Entry) → fits_when σ s 
 fits_by_set Ours s e = refl
 fits_by_set Device s e = refl
 
--- one clause after another
-module _ (f : ℕ → Bool) (n : ℕ) (xs : List ℤ) (i : ℕ) (here : i < length xs) where
-  pub all_more : f (nat_abs (get_or xs i (pos 0)) - suc n) ≡ true → all f (set_of n (drop i xs)) ≡ all f (set_of n (drop (i + 1) xs))
-  all_more e = ap (λ l. all f (set_of n l)) (drop_more xs i (pos 0) here) ∙ ap (λ b. b && all f (set_of n (drop (i + 1) xs))) e
-
-  pub all_fails : f (nat_abs (get_or xs i (pos 0)) - suc n) ≡ false → all f (set_of n (drop i xs)) ≡ false
-  all_fails e = ap (λ l. all f (set_of n l)) (drop_more xs i (pos 0) here) ∙ ap (λ b. b && all f (set_of n (drop (i + 1) xs))) e
-
--- one entry after another: the first of the records that are left has its signals and its values
-module _ (n k : ℕ) (σ : Side) (vs : List ℕ) (proper : ProperLevel n vs) (l r : List (List ℤ)) (rec : List ℤ) (is : l ≡ rec ∷ r) (forms : All (EntryForm n k σ vs) l) where
-  pub first_form : EntryForm n k σ vs rec
-  first_form = (subst (All (EntryForm n k σ vs)) is forms).0
-
-  pub rest_forms : All (EntryForm n k σ vs) r
-  rest_forms = (subst (All (EntryForm n k σ vs)) is forms).1
-
-  module _ (signals values : List ℤ) (p : ℕ) (front : signals ≡ take p rec) (back : values ≡ drop p rec) (h : p + length vs ≡ length rec) (s : ℕ → Bool) (whole : List Entry)
-      (so_far : find (fits_when σ s) whole ≡ find (fits_when σ s) (each (entry_of n) l)) where
-    parts : entry_of n rec ≡ record { set = set_of n signals; values = values }
-    parts =
-        entry_split n k σ vs proper rec first_form p h
-        ∙ ap₂ {C = Entry} (λ (S : List ℕ) (x : List ℤ). record { set = S; values = x }) (ap (set_of n) (sym front)) (sym back)
-
-    fit : fits_when σ s (entry_of n rec) ≡ all (λ i. wants σ (s i)) (set_of n signals)
-    fit = ap (fits_when σ s) parts ∙ fits_by_set σ s (record { set = set_of n signals; values = values })
-
-    pub find_here : true ≡ all (λ i. wants σ (s i)) (set_of n signals) → values_in (find (fits_when σ s) whole) ≡ some values
-    find_here e =
-        ap values_in (so_far ∙ ap (λ m. find (fits_when σ s) (each (entry_of n) m)) is ∙ cond-true (fits_when σ s (entry_of n rec)) _ _ (fit ∙ sym e))
-        ∙ ap (λ (x : Entry). some x.values) parts
-
-    pub find_next : false ≡ all (λ i. wants σ (s i)) (set_of n signals) → find (fits_when σ s) whole ≡ find (fits_when σ s) (each (entry_of n) r)
-    find_next e = so_far ∙ ap (λ m. find (fits_when σ s) (each (entry_of n) m)) is ∙ cond-false (fits_when σ s (entry_of n rec)) _ _ (fit ∙ sym e)
-
 -- what is satisfied matters for the clauses below k only
 module _ (σ : Side) (s t : ℕ → Bool) (k : ℕ) (agree : (i : ℕ) → i < k → s i ≡ t i) where
   all_agree : (low : ℕ) (S : List ℕ) → Ascending low k (each (λ i. suc i) S) → all (λ i. wants σ (s i)) S ≡ all (λ i. wants σ (t i)) S
@@ -100,3 +71,35 @@ module _ (σ : Side) (s t : ℕ → Bool) (k : ℕ) (agree : (i : ℕ) → i < k
       ap (fits_when σ s) is ∙ fits_by_set σ s e ∙ all_agree 0 e.set form.1 ∙ sym (fits_by_set σ t e) ∙ sym (ap (fits_when σ t) is) in
       ap (λ b. cond b (some (entry_of n rec)) (find (fits_when σ s) (each (entry_of n) rs))) fit
       ∙ ap (λ o. cond (fits_when σ t (entry_of n rec)) (some (entry_of n rec)) o) (find_agree n vs proper rs h.1)
+
+-- the first of what f makes of a list that passes, by its place in the list
+module _ {A B : Type 0} (p : B → Bool) (f : A → B) where
+  pub find_none : (xs : List A) → AllWithin (λ x. p (f x) ≡ false) xs 0 (length xs) → find p (each f xs) ≡ none
+  find_none [] h = refl
+  find_none (x ∷ xs) h = cond-false (p (f x)) _ _ (h 0 x (omega arith) (omega arith)) ∙ find_none xs (λ k d l u. h (suc k) d (omega arith) (omega arith))
+
+  pub find_some : (xs : List A) (i : ℕ) (y : A) → i < length xs → HoldsAt (λ z. z ≡ y) xs i → p (f y) ≡ true → AllWithin (λ x. p (f x) ≡ false) xs 0 i → find p (each f xs) ≡ some (f y)
+  find_some [] i y l h e none_before = absurd (omega arith)
+  find_some (x ∷ xs) zero y l h e none_before = cond-true (p (f x)) _ _ (ap (λ z. p (f z)) (h x) ∙ e) ∙ ap (λ z. some (f z)) (h x)
+  find_some (x ∷ xs) (suc i) y l h e none_before =
+      cond-false (p (f x)) _ _ (none_before 0 x (omega arith) (omega arith)) ∙ find_some xs i y (omega arith) (λ d. h d) e (λ k d a b. none_before (suc k) d (omega arith) (omega arith))
+
+  -- by what `find` says of the list
+  abbrev pub Found : (xs : List A) → Option (Bor A) → Type 0
+  Found xs r = MatchOption r (AllWithin (λ x. p (f x) ≡ false) xs 0 (length xs))
+      (λ y. (p (f y.now) ≡ true) × (i : ℕ) × (i < length xs) × HoldsAt (λ z. z ≡ y.now) xs i × AllWithin (λ x. p (f x) ≡ false) xs 0 i)
+
+  pub found_none : (xs : List A) (r : Option (Bor A)) → Found xs r → r ≡ None → find p (each f xs) ≡ none
+  found_none xs r h e = find_none xs (subst (Found xs) e h)
+
+  pub found_some : (xs : List A) (r : Option (Bor A)) (y : Bor A) → Found xs r → r ≡ Some y → find p (each f xs) ≡ some (f y.now)
+  found_some xs r y h e = let k = subst (Found xs) e h in find_some xs k.1 y.now k.2 k.3 k.0 k.4
+
+  pub found_in : (P : A → Type 0) (xs : List A) (r : Option (Bor A)) (y : Bor A) → Found xs r → r ≡ Some y → All P xs → P y.now
+  found_in P xs r y h e all = let k = subst (Found xs) e h in subst P (k.3 y.now) (All-get_or P xs k.1 y.now k.2 (All-from_recursion P xs all))
+
+  pub found_by : {S F : Type 0} {steps : S → Option (Bor A) → S → Type 0} {g : Mut F (Bor (Bor A) × Unit {0}) Bool} {s : S} (xs : List A) (u : S) (k : F) (r : Option (Bor A))
+      → (ys : List (Bor A)) × (j : F) × YieldsThen steps s ys r u × FoldsTo (λ a x q. CalledAt g a x false q) k ys j × MatchOption r ⊤ (λ x. (h : F) × CalledAt g j x true h)
+      → YieldsList steps (λ x. x.now) s xs → ((x : Bor A) (b : Bool) (q : F) → CalledAt g k x b q → (q ≡ k) × (b ≡ p (f x.now))) → Found xs r
+  found_by xs u k r ran road told =
+      first_from_find u k r (λ x. p (f x) ≡ true) (λ x. p (f x) ≡ false) ran road (λ x q c. sym (told x true q c).1) (λ x q c. let t = told x false q c in (t.0, sym t.1))

@@ -1,3 +1,4 @@
 pub mod Fitting
 pub mod MoveLaws
+pub mod Naming
 pub mod NextMove

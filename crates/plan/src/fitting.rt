@@ -1,17 +1,19 @@
 // The newest entry of a level that fits a set of satisfied clauses.
-ghost use Rattle.std.specs.Prelude.{◌≡◌, ◌+◌, ◌<◌, true, false, length, get_or, IfSome, MatchOption, slice_index_or};
+ghost use Rattle.std.specs.Prelude.{◌≡◌, suc, ◌-◌, ◌<◌, ◌≤◌, false, length, get_or, IfSome, MatchOption, unsigned_abs};
 ghost use Rattle.std.proofs.Math.Option.{none, some};
 ghost use Rattle.formula.specs.Lists.{all, find};
 ghost use Rattle.strategy.specs.Entries.{fits_when};
+ghost use Rattle.strategy.specs.Records.{entry_of};
 ghost use Rattle.strategy.specs.RecordedPlan.{values_in};
 ghost use Rattle.layout.specs.Table.{Limits, level_of};
 ghost use Rattle.layout.specs.Shown.{variables_at, entries_in};
-ghost use Rattle.soundness.specs.Soundness.{SoundEntries};
-ghost use Rattle.soundness.specs.Forms.{are_signals};
+ghost use Rattle.soundness.specs.Soundness.{EntryForm, SoundEntries};
 ghost use Rattle.plan.specs.Fitting.{set_of, wants};
+ghost use Rattle.plan.specs.Naming.{Behind};
 
+use crate::parts::split_entry;
 use formula::Side;
-use layout::{Game, count_variables};
+use layout::{Game, magnitude};
 use soundness::chain;
 
 // What a side asks of a clause in an entry's set: ours that it is satisfied, the device that it is not.
@@ -24,18 +26,36 @@ fn is_wanted(side: Side, satisfied: bool) -> bool
     }
 }
 
-// Whether an entry with these signals fits.
-fn fits(game: &Game, side: Side, signals: &[i32], satisfied: &[bool; 512]) -> bool
-    requires { (Limits game.now) × (are_signals side game.now.variables (game.now.variables + game.now.clauses) signals.now ≡ true) }
-    ensures { result ≡ all (λ i. wants side (slice_index_or satisfied.now i false)) (set_of game.now.variables signals.now) }
+// The place of the clause that a number names; the signals of the clauses come behind `base`.
+pub fn place(base: usize, x: i32) -> usize
+    requires { base < unsigned_abs x }
+    ensures { result ≡ unsigned_abs x - suc base }
 {
-    for x in signals {
-        let clause = x.unsigned_abs() as usize - (game.variables + 1);
-        if !is_wanted(side, satisfied[clause]) {
-            return false;
-        }
-    }
-    true
+    magnitude(x) - base - 1
+}
+
+// Whether a side has what it asks of each clause that the signals name.
+fn are_wanted(side: Side, base: usize, signals: &[i32], satisfied: &[bool; 512]) -> bool
+    requires { (base ≤ 768) × (Behind base signals.now) }
+    ensures { result ≡ all (λ i. wants side (get_or satisfied.now i false)) (set_of base signals.now) }
+{
+    signals
+        .iter()
+        .map(|x| place(base, *x))
+        .all(|clause| is_wanted(side, satisfied[clause]))
+}
+
+// Whether an entry of the level m, taken as one of the side, fits.
+pub fn fits(game: &Game, m: usize, side: Side, entry: &[i32], satisfied: &[bool; 512]) -> bool
+    requires { (Limits game.now) × ((m < 32) × (EntryForm game.now.variables game.now.clauses (level_of game.now m).side (variables_at game.now m) entry.now)) }
+    ensures { result ≡ fits_when side (λ i. get_or satisfied.now i false) (entry_of game.now.variables entry.now) }
+{
+    are_wanted(
+        side,
+        game.variables,
+        split_entry(game, m, entry).signals,
+        satisfied,
+    )
 }
 
 // The values of the newest entry of the level m that fits; the newest heads the chain.
@@ -49,16 +69,8 @@ pub fn newest_fitting<'a>(
     ensures found { MatchOption result (values_in (find (fits_when (level_of game.now m).side (λ i. get_or satisfied.now i false)) (entries_in game.now pool.now m)) ≡ none) (λ x. values_in (find (fits_when (level_of game.now m).side (λ i. get_or satisfied.now i false)) (entries_in game.now pool.now m)) ≡ some x.now) }
     ensures count { IfSome result (λ x. length x.now ≡ length (variables_at game.now m)) }
 {
-    let count = count_variables(game, m);
     let side = game.levels[m].side;
-    let mut rest = chain(game, pool, game.levels[m].entries);
-    while let Some(entry) = rest.next() {
-        let Some((signals, values)) = entry.split_at_checked(entry.len() - count) else {
-            unreachable()
-        };
-        if fits(game, side, signals, satisfied) {
-            return Some(values);
-        }
-    }
-    None
+    let mut entries = chain(game, pool, game.levels[m].entries);
+    let entry = entries.find(|entry| fits(game, m, side, entry, satisfied))?;
+    Some(split_entry(game, m, entry).values)
 }

@@ -4,8 +4,10 @@
 
 mod fitting;
 mod move_laws;
+mod parts;
 mod plays;
 
-pub use fitting::newest_fitting;
+pub use fitting::{fits, newest_fitting, place};
 pub use move_laws::{a_move_is_recorded, entries_have_values, plays_are_taken};
+pub use parts::{Parts, split_entry};
 pub use plays::{is_play, satisfied};

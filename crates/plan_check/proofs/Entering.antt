@@ -1,14 +1,15 @@
--- What holds of some entry of a level, one record after another.
-use Rattle.std.proofs.Common.{◌≡◌, ◌↔◌, List, ◌∷◌, sym, subst, inl, inr, ⊎_elim}
-use Rattle.formula.specs.Lists.{Any, each}
+-- What holds of some entry of a level, by a test of each.
+use Rattle.std.proofs.Common.{◌≡◌, Bool, T, List, [], ◌∷◌, Decides}
+use Rattle.std.proofs.lemmas.Bool.{false≢true}
+use Rattle.std.proofs.lemmas.Bool.Decides.{Decides-at, Decides-or}
+use Rattle.formula.specs.Lists.{any, Any, each}
+use Rattle.formula.proofs.Tests.{is_true}
+use Rattle.soundness.proofs.Rows.{test_true}
 
--- W says that P holds of one of what f makes of those that are left
-module _ {A B : Type 0} (P : B → Type 0) (f : A → B) (W : Type 0) (l : List A) (so_far : W ↔ Any P (each f l)) where
-  pub any_here : (x : A) (r : List A) → l ≡ x ∷ r → P (f x) → W
-  any_here x r e h = so_far.1 (subst (λ m. Any P (each f m)) (sym e) (inl h))
+module _ {A B : Type 0} (p : B → Bool) (f : A → B) where
+  some : (xs : List A) → Decides (any (λ x. p (f x)) xs) (Any (λ e. T (p e)) (each f xs))
+  some [] = ((λ e. absurd (false≢true e)), (λ h. absurd h))
+  some (x ∷ xs) = Decides-or (p (f x)) (any (λ y. p (f y)) xs) (test_true (p (f x)), is_true (p (f x))) (some xs)
 
-  pub any_next : (x : A) (r : List A) → l ≡ x ∷ r → (P (f x) → ⊥) → W ↔ Any P (each f r)
-  any_next x r e ne = (
-    (λ w. ⊎_elim (λ h. absurd (ne h)) (λ later. later) (subst (λ m. Any P (each f m)) e (so_far.0 w))),
-    (λ later. so_far.1 (subst (λ m. Any P (each f m)) (sym e) (inr later))),
-  )
+  pub entered : (xs : List A) (r : Bool) → r ≡ any (λ x. p (f x)) xs → Decides r (Any (λ e. T (p e)) (each f xs))
+  entered xs r is = Decides-at r (any (λ x. p (f x)) xs) is (some xs)

@@ -13,7 +13,7 @@ use Rattle.strategy.specs.Entries.{Entry}
 use Rattle.strategy.specs.Records.{learned_record}
 use Rattle.strategy.specs.Check.{is_learned_number, learned_set_of}
 use Rattle.strategy.proofs.Flats.{learned_by_numbers}
-use Rattle.plan_check.specs.Naming.{Behind}
+use Rattle.plan.specs.Naming.{Behind}
 
 above : (n k : ℕ) (σ : Side) (x : ℤ) → is_learned_number n k σ x ≡ true → n + k < nat_abs x
 above n k Ours (pos m) e = absurd (false≢true e)

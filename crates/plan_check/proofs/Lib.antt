@@ -1,8 +1,8 @@
 pub mod Clashing
+pub mod Compared
 pub mod Covered
 pub mod Descending
 pub mod Entering
-pub mod Flags
 pub mod Fronts
 pub mod Learning
 pub mod Opened

@@ -1,7 +1,5 @@
 -- The records of a level at open, by the clauses that make them.
-use Rattle.std.proofs.Common.{◌≡◌, ℕ, zero, suc, ◌+◌, ◌-◌, ◌<◌, ◌≤◌, Bool, List, [], ◌∷◌, length, get_or, ℤ, pos, nat_abs, sym, ap, ◌∙◌, subst, ⊎_elim, arith}
-use Rattle.std.specs.List.{AllByRecursion}
-use Rattle.std.proofs.ByRecursion.{All-get_or}
+use Rattle.std.proofs.Common.{◌≡◌, ℕ, zero, suc, ◌+◌, ◌-◌, ◌<◌, ◌≤◌, Bool, List, [], ◌∷◌, length, get_or, ℤ, sym, ap, ◌∙◌, subst, ⊎_elim, arith}
 use Rattle.std.proofs.lemmas.Bool.{cases_lt}
 use Rattle.formula.specs.Lists.{In, from}
 use Rattle.formula.specs.Game.{Clauses}
@@ -10,7 +8,6 @@ use Rattle.formula.specs.declared.side.Side.{Side}
 use Rattle.formula.specs.declared.side.Side.TheVariants.{Ours, Device}
 use Rattle.formula.proofs.Members.{in_left, in_right}
 use Rattle.formula.proofs.Values.{in_append}
-use Rattle.pool.specs.Records.{Literal}
 use Rattle.strategy.specs.Records.{gather}
 use Rattle.strategy.proofs.ListPlaces.{get_here}
 use Rattle.layout.specs.Opening.{clause_records}
@@ -40,7 +37,3 @@ module _ (C : Clauses) (n k : ℕ) (σ : Side) (vs : List ℕ) (last : Bool) (co
   made_here =
       made_at C n σ vs last (left - 1) clause (ap (λ D. get_or D (left - 1) []) is ∙ ap (λ m. get_or (onto rest (clause ∷ done)) m []) (sym long) ∙ get_here rest clause done [])
       ∙ ap (λ m. made_by n m σ vs last (left - 1) clause) count
-
--- numbers of a chain are small
-pub small_numbers : (s : ℕ) (xs : List ℤ) → s ≤ 1280 → AllByRecursion (Literal s) xs → (j : ℕ) → j < length xs → nat_abs (get_or xs j (pos 0)) ≤ 1280
-small_numbers s xs h all j l = let r = All-get_or (Literal s) xs j (pos 0) l all in omega (arith, r.1)

@@ -12,18 +12,15 @@ ghost use Rattle.plan_check.specs.Readable.{Readable};
 use crate::learned::is_learned;
 use crate::openings::is_opening;
 use formula::Side;
-use layout::{Game, count_signals};
-use pool::Chain;
+use layout::Game;
+use soundness::chain;
 
 // Whether the numbers are a record of the level m, taken as one of the side, at open, or one that it may have learned.
 fn record_holds(game: &Game, pool: &[i32], m: usize, side: Side, numbers: &[i32]) -> bool
     requires { (Readable game.now pool.now) × ((m < game.now.depth) × (AllByRecursion (Literal (signals_of game.now)) numbers.now)) }
     ensures { Decides result (RecordCheck (clauses_of game.now pool.now) game.now.variables side (variables_at game.now m) (shown_from game.now pool.now (m + 1)) numbers.now) }
 {
-    if is_opening(game, pool, m, side, numbers) {
-        return true;
-    }
-    is_learned(game, pool, m, side, numbers)
+    is_opening(game, pool, m, side, numbers) || is_learned(game, pool, m, side, numbers)
 }
 
 // Whether all records of the chain of the level m are.
@@ -31,11 +28,7 @@ pub(crate) fn chain_holds(game: &Game, pool: &[i32], m: usize, side: Side) -> bo
     requires { (Readable game.now pool.now) × (m < game.now.depth) }
     ensures { Decides result (RecordChecks (clauses_of game.now pool.now) game.now.variables side (variables_at game.now m) (records pool.now (level_of game.now m).chain) (shown_from game.now pool.now (m + 1))) }
 {
-    let mut rest = Chain::new(count_signals(game), pool, game.used, game.levels[m].chain);
-    while let Some(numbers) = rest.next() {
-        if !record_holds(game, pool, m, side, numbers) {
-            return false;
-        }
-    }
-    true
+    chain(game, pool, game.levels[m].chain).all(|numbers| record_holds(
+        game, pool, m, side, numbers,
+    ))
 }

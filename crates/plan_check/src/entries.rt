@@ -10,17 +10,16 @@ ghost use Rattle.layout.specs.Shown.{variables_at, entries_in};
 ghost use Rattle.layout.specs.Viewed.{clauses_of, signals_of};
 ghost use Rattle.soundness.specs.Soundness.{EntryForm, SoundFormula};
 ghost use Rattle.plan.specs.Fitting.{set_of};
-ghost use Rattle.plan_check.specs.Naming.{Behind};
+ghost use Rattle.plan.specs.Naming.{Behind};
 ghost use Rattle.plan_check.specs.Places.{shown_from};
 ghost use Rattle.plan_check.specs.Readable.{Readable};
 
-use crate::parts::{Parts, split_entry};
 use crate::sets::{is_apart, is_full, mark};
 use crate::unsatisfiable::is_unsatisfiable;
 use engine::Engine;
 use formula::Side;
 use layout::Game;
-use plan::satisfied;
+use plan::{Parts, satisfied, split_entry};
 use soundness::chain;
 
 // The clauses of an entry's set, and those that its values hit.

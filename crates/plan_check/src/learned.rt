@@ -11,10 +11,10 @@ ghost use Rattle.plan_check.specs.Readable.{Readable};
 ghost use Rattle.std.specs.List.{AllByRecursion};
 ghost use Rattle.pool.specs.Records.{Literal};
 
-use crate::parts::split_entry;
-use crate::sets::{is_within, mark};
+use crate::sets::mark;
 use formula::Side;
 use layout::{Game, magnitude};
+use plan::fits;
 use soundness::chain;
 
 // Whether a number is the opposite of a signal b at our level, or such a signal at the device's.
@@ -36,12 +36,9 @@ fn are_learned_numbers(variables: usize, clauses: usize, side: Side, numbers: &[
     requires { (variables ≤ 256) × (clauses ≤ 512) }
     ensures { result ≡ all (is_learned_number variables clauses side) numbers.now }
 {
-    for x in numbers {
-        if !is_learned_number(variables, clauses, side, *x) {
-            return false;
-        }
-    }
-    true
+    numbers
+        .iter()
+        .all(|x| is_learned_number(variables, clauses, side, *x))
 }
 
 // Whether some entry of the level m has a set of flagged clauses.
@@ -49,13 +46,7 @@ pub(crate) fn is_entered(game: &Game, pool: &[i32], m: usize, flags: &[bool; 512
     requires { (Limits game.now) × ((m < 32) × (SoundEntries game.now pool.now m)) }
     ensures { Decides result (Any (λ e. T (all (λ i. slice_index_or flags.now i false) e.set)) (entries_in game.now pool.now m)) }
 {
-    let mut rest = chain(game, pool, game.levels[m].entries);
-    while let Some(entry) = rest.next() {
-        if is_within(game.variables, split_entry(game, m, entry).signals, flags) {
-            return true;
-        }
-    }
-    false
+    chain(game, pool, game.levels[m].entries).any(|entry| fits(game, m, Side::Ours, entry, flags))
 }
 
 // Whether the numbers are the record that the level m, taken as one of the side, learns with a set that contains the set of some entry at the next level.

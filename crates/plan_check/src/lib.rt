@@ -9,7 +9,6 @@ mod faults;
 mod learned;
 mod levels;
 mod openings;
-mod parts;
 mod sets;
 mod start;
 mod unsatisfiable;

@@ -1,6 +1,6 @@
 // Whether a record is one of those that a level has when a game is opened, by the formula as the pool has it. Levels and clauses count from 0.
-ghost use Rattle.std.specs.Prelude.{◌≡◌, ℕ, ◌+◌, ◌<◌, ◌≤◌, true, false, [], ◌∷◌, ◌++◌, length, pos, neg_ℤ, Decides, slice_index_or, unsigned_abs};
-ghost use Rattle.formula.specs.Lists.{In, each, elem};
+ghost use Rattle.std.specs.Prelude.{◌≡◌, ◌+◌, ◌<◌, true, false, [], ◌∷◌, ◌++◌, pos, neg_ℤ, Decides};
+ghost use Rattle.formula.specs.Lists.{In, each};
 ghost use Rattle.strategy.specs.Signals.{b_signal};
 ghost use Rattle.strategy.specs.Records.{open_records};
 ghost use Rattle.layout.specs.Table.{Limits};
@@ -11,34 +11,14 @@ ghost use Rattle.plan_check.specs.Places.{shown_from};
 ghost use Rattle.plan_check.specs.Readable.{Readable};
 
 use formula::Side;
-use layout::{Game, b_signal, count_signals, magnitude, t_signal};
-use pool::Chain;
-
-// Whether a literal's variable is of the level m.
-fn is_at(game: &Game, m: usize, literal: i32) -> bool
-    requires { (Limits game.now) × (m < 32) }
-    ensures { result ≡ elem (unsigned_abs literal) (variables_at game.now m) }
-{
-    let v = magnitude(literal);
-    if v < 1 || v > game.variables {
-        return false;
-    }
-    game.levels[m].variables[v]
-}
-
-// Whether two numbers are the same.
-fn is_same(x: i32, y: i32) -> bool
-    ensures { Decides result (x ≡ y) }
-{
-    x == y
-}
+use layout::{Game, b_signal, t_signal};
+use soundness::{chain, is_at};
 
 // Whether a number is the opposite of a signal or of a literal.
 fn is_opposite(x: i32, y: i32) -> bool
-    requires { unsigned_abs y ≤ 1280 }
     ensures { Decides result (x ≡ neg_ℤ y) }
 {
-    x == -y
+    i64::from(x) == -i64::from(y)
 }
 
 // Whether the numbers are the literals of a clause at the level m, and then those of the tail.
@@ -46,36 +26,19 @@ fn is_made_of(game: &Game, m: usize, clause: &[i32], tail: &[i32], numbers: &[i3
     requires { (Limits game.now) × (m < 32) }
     ensures { Decides result (numbers.now ≡ literals_at (variables_at game.now m) clause.now ++ tail.now) }
 {
-    let mut at = 0;
-    for l in clause {
-        if !is_at(game, m, *l) {
-            continue;
-        }
-        if at == numbers.len() {
-            return false;
-        }
-        if !is_same(numbers[at], *l) {
-            return false;
-        }
-        at += 1;
-    }
-    &numbers[at..] == tail
+    let literals = clause.iter().filter(|l| is_at(game, m, **l));
+    numbers.iter().eq(literals.chain(tail))
 }
 
 // Whether a number is the opposite of a literal that a clause has at the level m.
 fn is_opposed(game: &Game, m: usize, clause: &[i32], x: i32) -> bool
-    requires { (Limits game.now) × ((m < 32) × (((j : ℕ) → j < length clause.now → unsigned_abs (slice_index_or clause.now j (pos 0)) ≤ 1280))) }
+    requires { (Limits game.now) × (m < 32) }
     ensures { Decides result (In x (each neg_ℤ (literals_at (variables_at game.now m) clause.now))) }
 {
-    for l in clause {
-        if !is_at(game, m, *l) {
-            continue;
-        }
-        if is_opposite(x, *l) {
-            return true;
-        }
-    }
-    false
+    clause
+        .iter()
+        .filter(|l| is_at(game, m, **l))
+        .any(|l| is_opposite(x, *l))
 }
 
 // Whether the numbers are the record of clause i at our level m.
@@ -100,16 +63,13 @@ fn is_our_record(
 
 // Whether the numbers are a record of clause i at the device's level m.
 fn is_device_record(game: &Game, m: usize, i: usize, clause: &[i32], numbers: &[i32]) -> bool
-    requires { (Limits game.now) × ((m < game.now.depth) × ((i < game.now.clauses) × (((j : ℕ) → j < length clause.now → unsigned_abs (slice_index_or clause.now j (pos 0)) ≤ 1280)))) }
+    requires { (Limits game.now) × ((m < game.now.depth) × (i < game.now.clauses)) }
     ensures { Decides result (In numbers.now (each (λ l. neg_ℤ l ∷ neg_ℤ (pos (b_signal game.now.variables game.now.clauses i)) ∷ []) (literals_at (variables_at game.now m) clause.now))) }
 {
-    if numbers.len() != 2 {
+    let [x, y] = numbers else {
         return false;
-    }
-    if !is_opposite(numbers[1], b_signal(game.variables, game.clauses, i)) {
-        return false;
-    }
-    is_opposed(game, m, clause, numbers[0])
+    };
+    is_opposite(*y, b_signal(game.variables, game.clauses, i)) && is_opposed(game, m, clause, *x)
 }
 
 // Whether the numbers are a record of clause i at the level m, taken as one of the side.
@@ -122,7 +82,7 @@ fn is_clause_record(
     clause: &[i32],
     numbers: &[i32],
 ) -> bool
-    requires { (Limits game.now) × ((m < game.now.depth) × ((i < game.now.clauses) × (((j : ℕ) → j < length clause.now → unsigned_abs (slice_index_or clause.now j (pos 0)) ≤ 1280)))) }
+    requires { (Limits game.now) × ((m < game.now.depth) × (i < game.now.clauses)) }
     ensures { Decides result (In numbers.now (made_by game.now.variables game.now.clauses side (variables_at game.now m) last i clause.now)) }
 {
     match side {
@@ -137,8 +97,9 @@ pub(crate) fn is_opening(game: &Game, pool: &[i32], m: usize, side: Side, number
     ensures { Decides result (In numbers.now (open_records (clauses_of game.now pool.now) game.now.variables side (variables_at game.now m) (shown_from game.now pool.now (m + 1)))) }
 {
     let last = m + 1 == game.depth;
+    // counted down by hand: the chain has the last clause first, and a chain does not know its length
     let mut left = game.clauses;
-    let mut rest = Chain::new(count_signals(game), pool, game.used, game.formula);
+    let mut rest = chain(game, pool, game.formula);
     while let Some(clause) = rest.next() {
         left -= 1;
         if is_clause_record(game, m, side, last, left, clause, numbers) {

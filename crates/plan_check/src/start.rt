@@ -21,11 +21,7 @@ fn has_entry(game: &Game, pool: &[i32], m: usize) -> bool
     requires { (Limits game.now) × ((m < 32) × (SoundEntries game.now pool.now m)) }
     ensures { Decides result (Any (λ e. Unit {0}) (entries_in game.now pool.now m)) }
 {
-    let mut rest = chain(game, pool, game.levels[m].entries);
-    match rest.next() {
-        Some(_) => true,
-        None => false,
-    }
+    chain(game, pool, game.levels[m].entries).next().is_some()
 }
 
 // Whether the start is won by the side. Nothing is satisfied before the first level, whose side is `first`.

@@ -1,3 +1,4 @@
+pub mod Chained
 pub mod Forming
 pub mod OpenSound
 pub mod Rows

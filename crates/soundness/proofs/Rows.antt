@@ -1,10 +1,11 @@
 -- What holds of each element of a list, and of a set of variables, one element after another.
-use Rattle.std.proofs.Common.{◌≡◌, ℕ, zero, suc, ◌+◌, ◌<◌, ◌≤◌, Bool, true, false, T, eqb, ◌↔◌, List, [], ◌∷◌, sym, ◌∙◌, subst, inl, inr, ⊎_elim, arith, eqb→eq}
-use Rattle.std.proofs.lemmas.Bool.{cond_both, cases_lt, false≢true}
-use Rattle.formula.specs.Lists.{All, each, elem, keep, from}
+use Rattle.std.proofs.Common.{◌≡◌, ℕ, zero, suc, ◌+◌, ◌<◌, ◌≤◌, Bool, true, false, ◌⊎◌, T, eqb, ◌↔◌, List, [], ◌∷◌, sym, subst, inl, inr, ⊎_elim, arith, eqb→eq}
+use Rattle.std.specs.List.{range_with_len}
+use Rattle.std.proofs.lemmas.Bool.{cond_both, cases_Bool, false≢true}
+use Rattle.formula.specs.Lists.{All, Any, each, elem, keep, from}
 use Rattle.formula.specs.Proper.{Bound}
-use Rattle.formula.proofs.Tests.{or_cases}
-use Rattle.formula.proofs.Looked.{elem_kept}
+use Rattle.formula.proofs.Tests.{or_cases, is_true}
+use Rattle.formula.proofs.Looked.{elem_high}
 
 -- W holds just when P holds of each element that is left
 module _ {A : Type 0} (P : A → Type 0) (W : Type 0) (l : List A) (to : W ↔ All P l) where
@@ -30,16 +31,19 @@ kept_elem p i (suc n) v t =
     (λ passes k. ⊎_elim (λ here. let e : v ≡ i = eqb→eq v i here in (omega arith, omega arith, subst (λ u. p u ≡ true) (sym e) passes)) on (or_cases (eqb v i) (elem v (keep p (from (suc i) n))) k))
     (λ _. on) t
 
-pub kept_found : (p : ℕ → Bool) (n v : ℕ) → 0 < v → v ≤ n → p v ≡ true → T (elem v (keep p (from 1 n)))
-kept_found p n v low high e = test_true _ (elem_kept p 1 n v (omega arith) (omega arith) ∙ e)
+-- a number that is no variable of 1 to n is at no level
+pub elem_outside : (p : ℕ → Bool) (n v : ℕ) → (v < 1) ⊎ (n < v) → elem v (keep p (from 1 n)) ≡ false
+elem_outside p n v (inl h) =
+    ⊎_elim (λ t. absurd (let k = kept_elem p 1 n v (test_true _ t) in omega (arith, k.0))) (λ f. f) (cases_Bool (elem v (keep p (from 1 n))))
+elem_outside p n v (inr h) = elem_high p 1 n v (omega arith)
 
 -- a variable is bound at one of the levels of a row
-pub bound_found : (f : ℕ → List ℕ) (i n j v : ℕ) → i ≤ j → j < i + n → T (elem v (f j)) → Bound (each f (from i n)) v
-bound_found f i zero j v l u t = absurd (omega arith)
-bound_found f i (suc n) j v l u t =
-    ⊎_elim (λ above. inr (bound_found f (suc i) n j v above (omega arith) t)) (λ here. let e : j ≡ i = omega arith in inl (subst (λ k. T (elem v (f k))) e t)) (cases_lt i j)
+pub bound_in : (f : ℕ → List ℕ) (v a n : ℕ) → Any (λ m. elem v (f m) ≡ true) (range_with_len a n) → Bound (each f (from a n)) v
+bound_in f v a zero h = absurd h
+bound_in f v a (suc n) (inl e) = inl (test_true _ e)
+bound_in f v a (suc n) (inr h) = let e : a + 1 ≡ suc a = omega arith in inr (bound_in f v (suc a) n (subst (λ b. Any (λ m. elem v (f m) ≡ true) (range_with_len b n)) e h))
 
-pub bound_at : (f : ℕ → List ℕ) (i n v : ℕ) → Bound (each f (from i n)) v → (j : ℕ) × (i ≤ j) × (j < i + n) × T (elem v (f j))
-bound_at f i zero v b = absurd b
-bound_at f i (suc n) v (inl t) = (i, omega arith, omega arith, t)
-bound_at f i (suc n) v (inr b) = let r = bound_at f (suc i) n v b in (r.0, omega arith, omega arith, r.3)
+pub bound_some : (f : ℕ → List ℕ) (v a n : ℕ) → Bound (each f (from a n)) v → Any (λ m. elem v (f m) ≡ true) (range_with_len a n)
+bound_some f v a zero b = absurd b
+bound_some f v a (suc n) (inl t) = inl (is_true _ t)
+bound_some f v a (suc n) (inr b) = let e : suc a ≡ a + 1 = omega arith in inr (subst (λ b. Any (λ m. elem v (f m) ≡ true) (range_with_len b n)) e (bound_some f v (suc a) n b))

@@ -22,6 +22,7 @@ fn is_signed(side: Side, x: i32) -> bool
 fn are_signals(side: Side, low: usize, top: usize, numbers: &[i32]) -> bool
     ensures { result ≡ are_signals side low top numbers.now }
 {
+    // A loop: each signal is compared with the one before it.
     let mut last = low;
     for x in numbers {
         let signal = x.unsigned_abs() as usize;

@@ -5,4 +5,4 @@
 mod entries;
 mod soundness;
 
-pub use soundness::{chain, is_sound};
+pub use soundness::{chain, is_at, is_sound};

@@ -1,36 +1,36 @@
-use Rattle.std.proofs.Common.{false, T, get_or, sym, refl, subst, arith}
-use Rattle.formula.specs.Lists.{all, All}
+use Rattle.std.proofs.Common.{◌≡◌, Bool, false, List, ℤ, get_or, sym, subst, rules}
+use Rattle.std.proofs.lemmas.Iterator.Adapters.{serves_from_places}
+use Rattle.std.proofs.lemmas.Iterator.Consumers.{YieldsList-from_first}
+use Rattle.std.proofs.lemmas.List.Elements.{All-from_recursion, All-get_or}
+use Rattle.std.proofs.lemmas.Iterator.Search.{any_from_yields_List}
+use Rattle.pool.specs.Records.{records}
+use Rattle.pool.specs.Chains.{records_of}
 use Rattle.strategy.specs.Entries.{Entry}
 use Rattle.strategy.specs.Records.{entry_of}
+use Rattle.formula.specs.Lists.{all}
 use Rattle.layout.specs.Table.{level_of}
 use Rattle.layout.specs.Shown.{variables_at}
 use Rattle.soundness.specs.Soundness.{EntryForm}
-use Rattle.soundness.proofs.Rows.{test_true}
-use Rattle.formula.proofs.Tests.{is_true}
-use Rattle.std.proofs.lemmas.Bool.{both_ways}
-use Rattle.plan_check.proofs.Entering.{any_here, any_next}
+use Rattle.plan_check.proofs.Entering.{entered}
 use Rattle.plan_check.proofs.learned.is_entered.Goals as goal
 
-pub split_entry-requires : goal.split_entry-requires
-split_entry-requires c =
+pub any-requires-clause-callable : goal.any-requires-clause-callable
+any-requires-clause-callable c =
     let g = c.args.game.now in
-    (c.requires.0, (c.requires.1.0, (subst (All (EntryForm g.variables g.clauses (level_of g c.args.m).side (variables_at g c.args.m))) c.in-Some.ensures.records c.loop-entry.invariant.1).0))
+    let P : List ℤ → Type 0 = EntryForm g.variables g.clauses (level_of g c.args.m).side (variables_at g c.args.m) in
+    let rs = records c.args.pool.now (level_of g c.args.m).entries in
+    let same : records_of c.chain.result ≡ rs = c.chain.ensures.records (c.chain.ensures.sound.1 c.requires.1.1.chain) in
+    serves_from_places (YieldsList-from_first (λ x. x.now) (λ c'. records_of c') rs same)
+    (λ x q k. search rules)
+    (λ x k h e.
+    let form : P x.now = subst P (sym e) (All-get_or P rs k x.now h (All-from_recursion P rs c.requires.1.1.forms)) in
+    search rules)
 
-pub is_within-requires : goal.is_within-requires
-is_within-requires c = (omega (arith, c.requires.0.0), c.split_entry.ensures.named)
-
-pub returns-then-is_within : goal.returns-then-is_within
-returns-then-is_within c =
+pub returns : goal.returns
+returns c =
     let g = c.args.game.now in
-    let P : Entry → Type 0 = λ e. T (all (λ i. get_or c.args.flags.now i false) e.set) in
-    let here : P (entry_of g.variables c.in-Some.entry.now) = subst P (sym c.split_entry.ensures.is) (test_true _ (sym c.if-is_within.ensures)) in
-    (λ _. any_here P (entry_of g.variables) _ _ c.loop-entry.invariant.0 _ _ c.in-Some.ensures.records here, λ _. refl)
-
-pub loop-entry-preserved : goal.loop-entry-preserved
-loop-entry-preserved c =
-    let g = c.args.game.now in
-    let P : Entry → Type 0 = λ e. T (all (λ i. get_or c.args.flags.now i false) e.set) in
-    let not_here : P (entry_of g.variables c.in-Some.entry.now) → ⊥ = λ h. both_ways _ (sym c.if-is_within.ensures) (is_true _ (subst P c.split_entry.ensures.is h)) in (
-      any_next P (entry_of g.variables) _ _ c.loop-entry.invariant.0 _ _ c.in-Some.ensures.records not_here,
-      (subst (All (EntryForm g.variables g.clauses (level_of g c.args.m).side (variables_at g c.args.m))) c.in-Some.ensures.records c.loop-entry.invariant.1).1,
-    )
+    let p : Entry → Bool = λ e. all (λ i. get_or c.args.flags.now i false) e.set in
+    let rs = records c.args.pool.now (level_of g c.args.m).entries in
+    let same : records_of c.chain.result ≡ rs = c.chain.ensures.records (c.chain.ensures.sound.1 c.requires.1.1.chain) in
+    entered p (entry_of g.variables) rs c.any.result
+    (any_from_yields_List (λ xs. p (entry_of g.variables xs)) c.any.new.self _ c.any.result c.any.ensures.ran (YieldsList-from_first (λ x. x.now) (λ c'. records_of c') rs same) (λ x b q k. search rules))

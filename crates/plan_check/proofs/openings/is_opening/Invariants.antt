@@ -2,7 +2,6 @@ use Rattle.std.proofs.Common.{◌≡◌, ℕ, ◌+◌, ◌<◌, ◌≤◌, eqb, 
 use Rattle.formula.specs.Lists.{In}
 use Rattle.formula.specs.Backward.{onto}
 use Rattle.pool.specs.Chains.{records_of}
-use Rattle.pool.specs.Chains.{signals_of as signals_read}
 use Rattle.layout.specs.Shown.{variables_at}
 use Rattle.layout.specs.Viewed.{clauses_of}
 use Rattle.layout.specs.Opening.{clause_records}
@@ -11,7 +10,7 @@ use Rattle.plan_check.proofs.openings.is_opening.Given as goal
 -- the clauses from `left` on have been looked at, and none of them makes the record
 abbrev pub invariant-loop-clause : goal.invariant-loop-clause
 invariant-loop-clause l =
-    (length (records_of l.rest) ≡ l.left) × (l.left ≤ l.game.clauses) × (signals_read l.rest ≤ 1280)
+    (length (records_of l.rest) ≡ l.left) × (l.left ≤ l.game.clauses)
     × ((done : List (List ℤ)) × (clauses_of l.game l.pool ≡ onto (records_of l.rest) done))
     × ((i : ℕ) → l.left ≤ i → i < l.game.clauses → In l.numbers (clause_records (clauses_of l.game l.pool) l.game.variables l.side (variables_at l.game l.m) (eqb (l.m + 1) l.game.depth) i) → ⊥)
 

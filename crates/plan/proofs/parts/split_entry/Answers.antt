@@ -7,7 +7,7 @@ use Rattle.soundness.proofs.Forming.{form_long, tests_from_form}
 use Rattle.plan.specs.Fitting.{set_of}
 use Rattle.layout.proofs.ProperRows.{row_proper}
 use Rattle.plan.proofs.Entered.{entry_split, signals_range}
-use Rattle.plan_check.proofs.parts.split_entry.Goals as goal
+use Rattle.plan.proofs.parts.split_entry.Goals as goal
 
 pub overflow_sub-entry : goal.overflow_sub-entry
 overflow_sub-entry c =
@@ -30,5 +30,6 @@ returns c =
     let signs = ap (are_signals σ n (n + g.clauses)) cut.1 ∙ (tests_from_form n g.clauses σ vs xs form p place).0 in
     record {
       is = entry_split n g.clauses σ vs (row_proper (binds_in g c.args.m) n) xs form p place ∙ ap₂ {C = Entry} (λ (S : List ℕ) (x : List ℤ). record { set = S; values = x }) (ap (set_of n) (sym cut.1)) (sym cut.2);
+      count = omega arith;
       named = λ j h. let r = signals_range σ n (n + g.clauses) _ signs j h in (r.0, omega (arith, r.1, c.requires.0.1));
     }

@@ -3,9 +3,9 @@ use Rattle.std.proofs.lemmas.Int.{to_z-of_z}
 use Rattle.formula.specs.Lists.{elem}
 use Rattle.formula.proofs.Looked.{elem_kept}
 use Rattle.layout.specs.Shown.{binds_in, variables_at}
-use Rattle.plan_check.proofs.Fronts.{elem_outside}
-use Rattle.plan_check.proofs.openings.is_at.Goals as goal
-use Rattle.plan_check.proofs.openings.is_at.Goals.{then-v-lt1-via-then-v-lt1, then-v-lt1-via-else-v-lt1+then-v-game}
+use Rattle.soundness.proofs.Rows.{elem_outside}
+use Rattle.soundness.proofs.soundness.is_at.Goals as goal
+use Rattle.soundness.proofs.soundness.is_at.Goals.{then-v-lt1-via-then-v-lt1, then-v-lt1-via-else-v-lt1+then-v-game}
 
 pub returns-then-v-lt1 : goal.returns-then-v-lt1
 returns-then-v-lt1 c =
