@@ -1,14 +1,9 @@
 // The numbers of a line.
+use crate::wrong::Wrong;
 use std::alloc::Global;
 
-// None where a word is no number.
-pub(crate) fn numbers(heap: Global, text: &str) -> anyhow::Result<Option<Vec<i32>>> {
-    let mut all = Vec::new(heap);
-    for word in text.split_whitespace() {
-        match word.parse::<i32>() {
-            Ok(x) => all.push(x)?,
-            Err(_) => return Ok(None),
-        }
-    }
-    Ok(Some(all))
+pub(crate) fn numbers(heap: Global, text: &str) -> Result<Vec<i32>, Wrong> {
+    text.split_whitespace()
+        .map(|word| word.parse::<i32>().map_err(|_| Wrong::NoNumber))
+        .try_collect(heap)
 }

@@ -11,22 +11,16 @@
 
 use ask_words::numbers;
 use branching::Branching;
-use draft::Draft;
-use engine::{Answer, Counting, Engine, Question, Refusal};
+use draft::{Draft, ROOM};
+use engine::{Answer, Counting, Engine, Question};
 use std::alloc::Global;
 use std::io;
 use trimmer::Trimmer;
+use wrong::Wrong;
 
 mod ask_words;
 mod draft;
-
-fn reason(refusal: Refusal) -> &'static str {
-    match refusal {
-        Refusal::TooManySignals => "more signals than this engine takes",
-        Refusal::ShortSlice => "too little room for an answer",
-        Refusal::UnsoundQuestion => "a number that names no signal, or too many assumptions",
-    }
-}
+mod wrong;
 
 fn print_words(rt: &impl Print, words: &[i32], count: usize) -> io::Result<()> {
     for x in words.iter().take(count) {
@@ -55,17 +49,15 @@ fn show<E: Engine>(
         }
         Err(refusal) => {
             let number = refusal.number();
-            let why = reason(refusal);
-            println!(rt; "refused {number}: {why}")
+            println!(rt; "refused {number}: {refusal}")
         }
     }
 }
 
 // The answers of all engines, side by side.
 fn ask_all(rt: &impl Print, draft: &Draft) -> io::Result<()> {
-    let mut words = [0i32; 1280];
-    let room = draft.room.min(1280);
-    let out = &mut words[0..room];
+    let mut words = [0i32; ROOM];
+    let out = &mut words[..draft.room.min(ROOM)];
     let question = draft.question();
     show(rt, "counting", &mut Counting, question, out)?;
     show(
@@ -85,53 +77,35 @@ fn ask_all(rt: &impl Print, draft: &Draft) -> io::Result<()> {
     )
 }
 
-// Obeys one line; gives what is wrong with it, if anything.
-fn obey(
-    rt: &impl Print,
-    heap: Global,
-    draft: &mut Draft,
-    line: &str,
-) -> anyhow::Result<Option<&'static str>> {
+// Obeys one line.
+fn obey(rt: &impl Print, heap: Global, draft: &mut Draft, line: &str) -> Result<(), Wrong> {
     let text = line.trim();
     if text.is_empty() || text.starts_with('#') {
-        return Ok(None);
+        return Ok(());
     }
-    let (name, rest) = match text.split_once(' ') {
-        Some((name, rest)) => (name, rest),
-        None => (text, ""),
-    };
-    let Some(values) = numbers(heap, rest)? else {
-        return Ok(Some("a word where a number is due"));
-    };
+    let (name, rest) = text.split_once(' ').unwrap_or((text, ""));
+    let values = numbers(heap, rest)?;
     match name {
-        "signals" => Ok(draft.begin(values.as_slice())),
-        "clause" => Ok(draft.clause(values.as_slice())),
+        "signals" => draft.begin(values.as_slice()),
+        "clause" => draft.clause(values.as_slice()),
         "assume" => draft.assume(values.as_slice()),
-        "room" => Ok(draft.set_room(values.as_slice())),
-        "ask" => {
-            ask_all(rt, draft)?;
-            Ok(None)
-        }
-        _ => Ok(Some("no command: signals, clause, assume, room or ask")),
+        "room" => draft.set_room(values.as_slice()),
+        "ask" => Ok(ask_all(rt, draft)?),
+        _ => Err(Wrong::NoCommand),
     }
-}
-
-fn run(rt: &HostRuntime) -> anyhow::Result<()> {
-    let heap = rt.alloc();
-    let mut draft = Draft::new(heap)?;
-    let mut at: u64 = 0;
-    for line in rt.lines(heap) {
-        let line = line?;
-        at = at.saturating_add(1);
-        println!(rt; "{}", line.as_str())?;
-        if let Some(wrong) = obey(rt, heap, &mut draft, line.as_str())? {
-            println!(rt; "line {at}: {wrong}")?;
-            return Ok(());
-        }
-    }
-    Ok(())
 }
 
 fn main(rt: HostRuntime) -> anyhow::Result<()> {
-    run(&rt)
+    let heap = rt.alloc();
+    let mut draft = Draft::new(heap)?;
+    for (line, at) in rt.lines(heap).zip(1u64..) {
+        let line = line?;
+        println!(rt; "{line}")?;
+        match obey(&rt, heap, &mut draft, line.as_str()) {
+            Ok(()) => {}
+            Err(Wrong::Outside(error)) => return Err(error.into()),
+            Err(wrong) => return Ok(println!(rt; "line {at}: {wrong}")?),
+        }
+    }
+    Ok(())
 }

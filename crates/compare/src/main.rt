@@ -6,25 +6,42 @@ ghost use Rattle.std.specs.Prelude.{pos, ◌≤ℤ◌};
 
 use branching::Branching;
 use engine::{Answer, Counting, Engine, Question, Tally};
-use pool::append;
+use pool::{Place, append};
 use random::Random;
 use trimmer::Trimmer;
 
 mod random;
 
+// Where the clauses of a pool begin.
+const START: Place = Place { head: 0, used: 1 };
+
 // The clauses of a question, in a pool of their own.
+// The draft of `ask` has such fields too; a type for both would be longer than what they share.
 #[derive(Drop)]
 struct Clauses {
     words: Vec<i32>,
-    used: usize,
-    head: usize,
+    place: Place,
 }
 
 impl Clauses {
+    fn clear(&mut self) {
+        self.place = START;
+    }
+
     fn add(&mut self, numbers: &[i32]) {
-        if let Some(place) = append(self.words.as_mut_slice(), self.used, self.head, numbers) {
-            self.used = place.used;
-            self.head = place.head;
+        let Place { head, used } = self.place;
+        if let Some(place) = append(self.words.as_mut_slice(), used, head, numbers) {
+            self.place = place;
+        }
+    }
+
+    fn question<'a>(&'a self, signals: usize, assumptions: &'a [i32]) -> Question<'a> {
+        Question {
+            signals,
+            pool: self.words.as_slice(),
+            used: self.place.used,
+            head: self.place.head,
+            assumptions,
         }
     }
 }
@@ -39,13 +56,15 @@ fn number(random: &mut Random) -> i32 {
     }
 }
 
+fn three(random: &mut Random) -> [i32; 3] {
+    std::array::from_fn(|_| number(random))
+}
+
 // Fills the clauses anew with 3 to 62 clauses of 1 to 3 numbers.
 fn refill(clauses: &mut Clauses, random: &mut Random) {
-    clauses.used = 1;
-    clauses.head = 0;
-    let count = random.below(60);
-    for _ in 0..count {
-        let numbers = [number(random), number(random), number(random)];
+    clauses.clear();
+    for _ in 0..random.below(60) {
+        let numbers = three(random);
         match random.below(8) {
             0 => clauses.add(&numbers[0..1]),
             1 | 2 => clauses.add(&numbers[0..2]),
@@ -54,17 +73,8 @@ fn refill(clauses: &mut Clauses, random: &mut Random) {
     }
 }
 
-// Whether an engine says yes; None where it refuses.
-fn says_yes<E: Engine>(engine: &mut E, question: Question, out: &mut [i32]) -> Option<bool> {
-    match engine.ask(question, out) {
-        Ok(Answer::Yes) => Some(true),
-        Ok(Answer::No(_)) => Some(false),
-        Err(_) => None,
-    }
-}
-
 // How the answers of two engines compare.
-#[derive(Clone, Copy)]
+#[derive(Clone, Copy, Default)]
 struct Score {
     yes: u64,
     no: u64,
@@ -73,35 +83,24 @@ struct Score {
 }
 
 fn compare(random: &mut Random, clauses: &mut Clauses, rounds: u32) -> Score {
-    let mut score = Score {
-        yes: 0,
-        no: 0,
-        apart: 0,
-        same: 0,
-    };
+    let mut score = Score::default();
     let mut branching = Branching::new();
     for _ in 0..rounds {
         refill(clauses, random);
-        let assumptions = [number(random), number(random), number(random)];
-        let question = Question {
-            signals: 12,
-            pool: clauses.words.as_slice(),
-            used: clauses.used,
-            head: clauses.head,
-            assumptions: &assumptions,
-        };
+        let assumptions = three(random);
+        let question = clauses.question(12, &assumptions);
         let mut first = [0i32; 12];
         let mut second = [0i32; 12];
-        let counted = says_yes(&mut Counting, question, &mut first);
-        let branched = says_yes(&mut branching, question, &mut second);
+        let counted = Counting.ask(question, &mut first);
+        let branched = branching.ask(question, &mut second);
         match (counted, branched) {
-            (Some(true), Some(true)) => {
+            (Ok(Answer::Yes), Ok(Answer::Yes)) => {
                 score.yes = score.yes.saturating_add(1);
                 if first == second {
                     score.same = score.same.saturating_add(1);
                 }
             }
-            (Some(false), Some(false)) => score.no = score.no.saturating_add(1),
+            (Ok(Answer::No(_)), Ok(Answer::No(_))) => score.no = score.no.saturating_add(1),
             _ => score.apart = score.apart.saturating_add(1),
         }
     }
@@ -110,10 +109,9 @@ fn compare(random: &mut Random, clauses: &mut Clauses, rounds: u32) -> Score {
 
 // Signal 1 brings 2, that brings 3, and so on to 1,001.
 fn implications(clauses: &mut Clauses) {
-    clauses.used = 1;
-    clauses.head = 0;
-    for i in 1..1001u16 {
-        let signal = i32::from(i);
+    clauses.clear();
+    for signal in 1..=1000u16 {
+        let signal = i32::from(signal);
         clauses.add(&[-signal, signal + 1]);
     }
 }
@@ -122,15 +120,14 @@ fn implications(clauses: &mut Clauses) {
 fn seat(p: u8, h: u8) -> i32
     ensures { pos 0 ≤ℤ result }
 {
-    i32::from(u16::from(p) * 5 + u16::from(h) + 1)
+    i32::from(p) * 5 + i32::from(h) + 1
 }
 
 // Six pigeons, each in one of five holes, no two in one.
 fn pigeons(clauses: &mut Clauses) {
-    clauses.used = 1;
-    clauses.head = 0;
+    clauses.clear();
     for p in 0..6u8 {
-        clauses.add(&[seat(p, 0), seat(p, 1), seat(p, 2), seat(p, 3), seat(p, 4)]);
+        clauses.add(&[0, 1, 2, 3, 4].map(|h| seat(p, h)));
         for q in 0..p {
             for h in 0..5u8 {
                 clauses.add(&[-seat(p, h), -seat(q, h)]);
@@ -148,14 +145,7 @@ fn show<'a>(
 ) -> std::io::Result<()> {
     let mut out = [0i32; 1280];
     let mut engine = Trimmer::new(Tally::new(Branching::new()));
-    let question = Question {
-        signals,
-        pool: clauses.words.as_slice(),
-        used: clauses.used,
-        head: clauses.head,
-        assumptions,
-    };
-    match engine.ask(question, &mut out) {
+    match engine.ask(clauses.question(signals, assumptions), &mut out) {
         Ok(Answer::Yes) => println!(rt; "{name}: yes"),
         Ok(Answer::No(count)) => println!(rt; "{name}: no, by {count} assumptions"),
         Err(_) => println!(rt; "{name}: refused"),
@@ -166,8 +156,7 @@ fn run(rt: &HostRuntime) -> anyhow::Result<()> {
     let heap = rt.alloc();
     let mut clauses = Clauses {
         words: vec![in heap; 0; 65536]?,
-        used: 1,
-        head: 0,
+        place: START,
     };
     let mut random = Random::new(2026);
     let score = compare(&mut random, &mut clauses, 4000);

@@ -17,6 +17,6 @@ impl Random {
             .wrapping_mul(6364136223846793005)
             .wrapping_add(1442695040888963407);
         let bytes = self.state.to_be_bytes();
-        if bound == 0 { 0 } else { bytes[0] % bound }
+        bytes[0].checked_rem(bound).unwrap_or(0)
     }
 }

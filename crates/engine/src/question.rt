@@ -2,6 +2,9 @@
 ghost use Rattle.std.specs.Prelude.{◌≡◌};
 ghost use Rattle.engine.specs.Asking.{number_of};
 
+use std::error::Error;
+use std::fmt;
+
 // Whether the chain at `head` and the assumptions can be true together, over the signals 1 to `signals`.
 #[derive(Clone, Copy)]
 pub struct Question<'a> {
@@ -20,7 +23,7 @@ pub enum Answer {
 }
 
 // Why a question is not answered.
-#[derive(Clone, Copy)]
+#[derive(Clone, Copy, PartialEq, Eq, Debug)]
 pub enum Refusal {
     TooManySignals,
     ShortSlice,
@@ -39,3 +42,16 @@ impl Refusal {
         }
     }
 }
+
+// What is wrong, in a few words.
+impl fmt::Display for Refusal {
+    fn fmt<W: fmt::Write>(&self, f: &mut fmt::Formatter<W>) -> fmt::Result {
+        f.write_str(match self {
+            Refusal::TooManySignals => "more signals than this engine takes",
+            Refusal::ShortSlice => "too little room for an answer",
+            Refusal::UnsoundQuestion => { "a number that names no signal, or too many assumptions" }
+        })
+    }
+}
+
+impl Error for Refusal {}

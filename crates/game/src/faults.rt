@@ -4,11 +4,13 @@ ghost use Rattle.game.specs.declared.faults.GameFault.TheVariants.{Text};
 ghost use Rattle.game.specs.Faults.{game_number, game_offset, game_layer};
 
 use reader::{Layer, TextFault};
+use std::error::Error;
+use std::fmt;
 
 // The longest pool that a game takes, in words.
 pub const MAX_POOL: usize = 1_048_576;
 
-#[derive(Clone, Copy)]
+#[derive(Clone, Copy, PartialEq, Eq, Debug)]
 pub enum GameFault {
     Text(TextFault),
     // 16: the pool is longer than 1,048,576 words
@@ -55,3 +57,20 @@ impl GameFault {
         }
     }
 }
+
+// What is wrong and what to do about it, in one sentence. A fault of the text reads as that of the text.
+impl fmt::Display for GameFault {
+    fn fmt<W: fmt::Write>(&self, f: &mut fmt::Formatter<W>) -> fmt::Result {
+        f.write_str(match self {
+            GameFault::Text(fault) => return fault.fmt(f),
+            GameFault::PoolTooLong => {
+                "the pool is longer than 1,048,576 words: lend a part of it"
+            }
+            GameFault::PoolTooShort => {
+                "the formula's records need more words than the pool has: drop clauses, or shorten them"
+            }
+        })
+    }
+}
+
+impl Error for GameFault {}

@@ -1,10 +1,9 @@
 // Opening a game, its steps, and what it has recorded, printed as numbers.
-ghost use Rattle.std.specs.Prelude.{◌<◌};
 ghost use Rattle.layout.specs.Table.{Limits};
 
 use engine::Engine;
 use formula::Side;
-use game::{Table, Verdict, open, step};
+use game::{StepFault, Table, Verdict, open, step};
 use layout::{Game, count_signals};
 use pool::Chain;
 use std::io;
@@ -38,38 +37,27 @@ pub(crate) fn opened(
     Ok(table)
 }
 
-// What a step came to.
-#[derive(Drop)]
-pub(crate) enum Turn {
-    On,
-    Won(Verdict),
-    Stopped,
-}
-
-// Makes a step and prints what it came to; the line is the caller's to end.
+// Makes a step, prints what it came to, and gives that back; the line is the caller's to end.
 pub(crate) fn make_turn<E: Engine>(
     rt: &impl Print,
     number: u8,
     table: &mut Table,
     engine: &mut E,
     pool: &mut [i32],
-) -> io::Result<Turn> {
-    match step(table, engine, pool) {
-        Ok(None) => {
-            print!(rt; "step {number}: went on")?;
-            Ok(Turn::On)
-        }
+) -> io::Result<Result<Option<Verdict>, StepFault>> {
+    let turn = step(table, engine, pool);
+    match &turn {
+        Ok(None) => print!(rt; "step {number}: went on")?,
         Ok(Some(verdict)) => {
             let side = side_name(verdict.side());
             print!(rt; "step {number}: {side}")?;
-            Ok(Turn::Won(verdict))
         }
         Err(fault) => {
             let refusal = fault.number();
             print!(rt; "step {number}: refused {refusal}")?;
-            Ok(Turn::Stopped)
         }
     }
+    Ok(turn)
 }
 
 // Makes steps until a verdict, a refusal or the 32nd, each on a line.
@@ -79,29 +67,15 @@ pub(crate) fn play<E: Engine>(
     engine: &mut E,
     pool: &mut [i32],
 ) -> io::Result<Option<Verdict>> {
-    for number in 1..33u8 {
+    for number in 1..=32u8 {
         let turn = make_turn(rt, number, table, engine, pool)?;
         println!(rt; "")?;
         match turn {
-            Turn::On => {}
-            Turn::Won(verdict) => return Ok(Some(verdict)),
-            Turn::Stopped => return Ok(None),
+            Ok(None) => {}
+            ended => return Ok(ended.ok().flatten()),
         }
     }
     Ok(None)
-}
-
-// The entries of a level, newest first. Levels count from 0.
-fn print_entries(rt: &impl Print, game: &Game, pool: &[i32], m: usize) -> io::Result<()>
-    requires { (Limits game.now) × (m < 32) }
-{
-    let level = m + 1;
-    let mut rest = Chain::new(count_signals(game), pool, game.used, game.levels[m].entries);
-    while let Some(entry) = rest.next() {
-        print!(rt; "entry of level {level}:")?;
-        print_numbers(rt, entry)?;
-    }
-    Ok(())
 }
 
 pub(crate) fn print_record(rt: &impl Print, table: &Table, pool: &[i32]) -> io::Result<()> {
@@ -110,8 +84,25 @@ pub(crate) fn print_record(rt: &impl Print, table: &Table, pool: &[i32]) -> io::
     };
     let used = game.used;
     println!(rt; "words in use: {used}")?;
-    for m in 0..game.depth {
-        print_entries(rt, game, pool, m)?;
+    for (level, number) in game.levels[..game.depth].iter().zip(1usize..) {
+        print_entries(rt, game, pool, level.entries, number)?;
+    }
+    Ok(())
+}
+
+// The entries of a level, newest first.
+fn print_entries(
+    rt: &impl Print,
+    game: &Game,
+    pool: &[i32],
+    entries: usize,
+    level: usize,
+) -> io::Result<()>
+    requires { Limits game.now }
+{
+    for entry in Chain::new(count_signals(game), pool, game.used, entries) {
+        print!(rt; "entry of level {level}:")?;
+        print_numbers(rt, entry)?;
     }
     Ok(())
 }

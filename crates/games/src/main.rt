@@ -3,7 +3,7 @@
 
 mod board;
 
-use board::{Turn, make_turn, opened, play, print_numbers, print_record};
+use board::{make_turn, opened, play, print_numbers, print_record};
 use engine::{Counting, Engine, Tally};
 use formula::Side;
 use game::{Table, Verdict, next_move, retire};
@@ -53,13 +53,12 @@ fn questions(rt: &impl Print, name: &str, text: &[u8], pool: &mut [i32]) -> io::
     println!(rt; "{name} with its questions counted")?;
     let mut table = opened(rt, pool, text, 1)?;
     let mut engine = Tally::new(Counting);
-    for number in 1..33u8 {
+    for number in 1..=32u8 {
         let turn = make_turn(rt, number, &mut table, &mut engine, pool)?;
         let count = engine.questions();
         println!(rt; ", questions so far: {count}")?;
-        match turn {
-            Turn::On => {}
-            Turn::Won(_) | Turn::Stopped => break,
+        if !matches!(turn, Ok(None)) {
+            break;
         }
     }
     println!(rt; "")

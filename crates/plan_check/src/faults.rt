@@ -2,7 +2,10 @@
 ghost use Rattle.std.specs.Prelude.{◌≡◌};
 ghost use Rattle.plan_check.specs.Checked.{check_number};
 
-#[derive(Clone, Copy)]
+use std::error::Error;
+use std::fmt;
+
+#[derive(Clone, Copy, PartialEq, Eq, Debug)]
 pub enum CheckFault {
     // 31: the table holds no game
     EmptyTable,
@@ -23,3 +26,16 @@ impl CheckFault {
         }
     }
 }
+
+// What is wrong, in a few words.
+impl fmt::Display for CheckFault {
+    fn fmt<W: fmt::Write>(&self, f: &mut fmt::Formatter<W>) -> fmt::Result {
+        f.write_str(match self {
+            CheckFault::EmptyTable => "no game was opened",
+            CheckFault::UnsoundPool => "the pool was changed after the last step",
+            CheckFault::TooManySignals => "the formula has more signals than the engine takes",
+        })
+    }
+}
+
+impl Error for CheckFault {}

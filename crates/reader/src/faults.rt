@@ -122,6 +122,16 @@ impl TextFault {
     }
 }
 
+impl fmt::Display for Layer {
+    fn fmt<W: fmt::Write>(&self, f: &mut fmt::Formatter<W>) -> fmt::Result {
+        f.write_str(match self {
+            Layer::Words => "words",
+            Layer::Text => "text",
+            Layer::Game => "game",
+        })
+    }
+}
+
 // What is wrong and what to do about it, in one sentence.
 impl fmt::Display for WordFault {
     fn fmt<W: fmt::Write>(&self, f: &mut fmt::Formatter<W>) -> fmt::Result {

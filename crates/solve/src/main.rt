@@ -4,39 +4,36 @@
 mod deciding;
 mod plan_text;
 mod report;
-mod show;
 mod wording;
 
 use branching::Branching;
-use deciding::{Outcome, decide};
+use deciding::decide;
 use game::{Table, open};
+use listing::Listing;
 use reader::read;
-use report::{print_check, print_winner, refuse_opening, refuse_step};
-use show::print_formula;
+use report::{print_check, print_winner, refuse_opening};
 use std::io;
 use std::io::Read;
 use std::process::ExitCode;
 use trimmer::Trimmer;
-use wording::SPENT;
 
 // The words of the pool: as many as a game takes.
 const POOL: usize = 1_048_576;
+
+// The clauses of a longer formula are not listed.
+const MOST_LISTED: usize = 40;
 
 // Whether the game was decided, and its plan accepted.
 fn play(rt: &HostRuntime, table: &mut Table, pool: &mut [i32]) -> io::Result<bool> {
     let mut engine = Trimmer::new(Branching::new());
     match decide(table, &mut engine, pool) {
-        Outcome::Decided(verdict, steps) => {
-            let winner = verdict.side();
-            print_winner(rt, table, pool, winner, steps)?;
+        Ok(decided) => {
+            let winner = decided.verdict.side();
+            print_winner(rt, table, pool, winner, decided.steps)?;
             print_check(rt, table, &mut engine, pool, winner)
         }
-        Outcome::Refused(fault, steps) => {
-            refuse_step(rt, fault, steps)?;
-            Ok(false)
-        }
-        Outcome::Spent => {
-            eprintln!(rt; "{SPENT}")?;
+        Err(undecided) => {
+            eprintln!(rt; "{undecided}")?;
             Ok(false)
         }
     }
@@ -52,7 +49,10 @@ fn run(rt: &HostRuntime) -> anyhow::Result<bool> {
         return Ok(false);
     }
     if let Ok(formula) = read(text.as_slice()) {
-        print_formula(rt, &formula)?;
+        rt.println(Listing {
+            formula: &formula,
+            most: MOST_LISTED,
+        })?;
     }
     Ok(play(rt, &mut table, pool.as_mut_slice())?)
 }

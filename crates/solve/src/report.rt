@@ -1,32 +1,19 @@
 // What the program says of a game: refusals on standard error, the winner, the plan and its check on standard output.
 use crate::plan_text::print_plan;
-use crate::wording::{check_fault, game_fault, step_fault, steps_word, what_it_means, winner_name};
+use crate::wording::{steps_word, what_it_means, winner_name};
 use engine::Engine;
 use formula::Side;
-use game::{GameFault, StepFault, Table};
+use game::{GameFault, Table};
+use listing::Refused;
 use plan_check::check;
-use reader::position_of;
 use std::io;
 
 pub(crate) fn refuse_opening(rt: &impl Eprint, text: &[u8], fault: GameFault) -> io::Result<()> {
+    if let GameFault::Text(fault) = fault {
+        return rt.eprintln(Refused { text, fault });
+    }
     let number = fault.number();
-    let why = game_fault(fault);
-    eprintln!(rt; "refused {number}: {why}")?;
-    let GameFault::Text(_) = fault else {
-        return Ok(());
-    };
-    let offset = fault.offset();
-    let place = position_of(text, offset);
-    let line = place.line;
-    let column = place.column;
-    eprintln!(rt; "found at line {line}, column {column} (byte {offset} of the text)")
-}
-
-pub(crate) fn refuse_step(rt: &impl Eprint, fault: StepFault, steps: u64) -> io::Result<()> {
-    let number = fault.number();
-    let why = step_fault(fault);
-    let unit = steps_word(steps);
-    eprintln!(rt; "refused {number} after {steps} {unit}: {why}")
+    eprintln!(rt; "refused {number}: {fault}")
 }
 
 // Checks what is recorded, from nothing but table and pool.
@@ -37,22 +24,16 @@ pub(crate) fn print_check<E: Engine>(
     pool: &[i32],
     winner: Side,
 ) -> io::Result<bool> {
-    match check(table, engine, pool, winner) {
-        Ok(true) => {
-            println!(rt; "checked: accepted")?;
-            Ok(true)
-        }
-        Ok(false) => {
-            println!(rt; "checked: not accepted")?;
-            Ok(false)
-        }
+    let checked = check(table, engine, pool, winner);
+    match checked {
+        Ok(true) => println!(rt; "checked: accepted")?,
+        Ok(false) => println!(rt; "checked: not accepted")?,
         Err(fault) => {
             let number = fault.number();
-            let why = check_fault(fault);
-            println!(rt; "checked: refused {number}: {why}")?;
-            Ok(false)
+            println!(rt; "checked: refused {number}: {fault}")?;
         }
     }
+    Ok(matches!(checked, Ok(true)))
 }
 
 pub(crate) fn print_winner(

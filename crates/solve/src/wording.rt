@@ -1,53 +1,8 @@
 // Every sentence that the program says about a refusal, the winner and the plan.
 use formula::Side;
-use game::{GameFault, StepFault};
-use plan_check::CheckFault;
-use reader::{TextFault, WordFault};
+use game::StepFault;
 
-fn word_fault(fault: WordFault) -> &'static str {
-    match fault {
-        WordFault::TooLong =>
-            "the text is longer than 65,536 bytes; shorten it (comments count too)",
-        WordFault::NoNumber(_) => {
-            "a number is due here: 0, or one to nine digits with no leading zero, with a minus where a literal is negated"
-        }
-    }
-}
-
-fn text_fault(fault: TextFault) -> &'static str {
-    match fault {
-        TextFault::Word(fault) => word_fault(fault),
-        TextFault::NoHeader(_) => {
-            "the header is due here: p cnf VARIABLES CLAUSES; comment lines begin with c and stand before it"
-        }
-        TextFault::BadCount(_) =>
-            "a count is due here: at most 256 variables, at most 512 clauses, none negative",
-        TextFault::OutOfRange(_) =>
-            "this is no declared variable: the header says how many there are",
-        TextFault::BadBlock(_) => {
-            "this block is empty, follows a block of the same side, or is the 33rd: join it with the block before, or drop it"
-        }
-        TextFault::LastBlockDevice(_) =>
-            "the last block is the device's (a): drop its variables, or end with a block of ours (e)",
-        TextFault::BoundTwice(_) => "this variable is bound twice: name it in one block, once",
-        TextFault::Unbound(_) => "no block binds this variable: add it to a block",
-        TextFault::TooManyLiterals(_) =>
-            "this is the 4,097th literal of the clauses: at most 4,096 are taken",
-        TextFault::WordAfterEnd(_) =>
-            "the last clause has ended: drop this word, or announce more clauses in the header",
-    }
-}
-
-pub(crate) fn game_fault(fault: GameFault) -> &'static str {
-    match fault {
-        GameFault::Text(fault) => text_fault(fault),
-        GameFault::PoolTooLong => "the pool is longer than 1,048,576 words: lend a part of it",
-        GameFault::PoolTooShort => {
-            "the formula's records need more words than the pool has: drop clauses, or shorten them"
-        }
-    }
-}
-
+// StepFault has no Display with these: some speak of errors of this program alone.
 pub(crate) fn step_fault(fault: StepFault) -> &'static str {
     match fault {
         StepFault::PoolFull => {
@@ -64,28 +19,12 @@ pub(crate) fn step_fault(fault: StepFault) -> &'static str {
     }
 }
 
-pub(crate) fn check_fault(fault: CheckFault) -> &'static str {
-    match fault {
-        CheckFault::EmptyTable => "no game was opened",
-        CheckFault::UnsoundPool => "the pool was changed after the last step",
-        CheckFault::TooManySignals => "the formula has more signals than the engine takes",
-    }
-}
-
 pub(crate) const SPENT: &str =
     "not decided within the steps that the program makes: ask about a smaller formula";
 
 pub(crate) const NOTHING_TO_PLAY: &str = "  no level is the winner's, so there is nothing to play";
 
 pub(crate) const NO_ENTRY: &str = "  no move is recorded here";
-
-// Whose a level is.
-pub(crate) fn owner(side: Side) -> &'static str {
-    match side {
-        Side::Ours => "ours",
-        Side::Device => "the device's",
-    }
-}
 
 pub(crate) fn winner_name(side: Side) -> &'static str {
     match side {

@@ -1,6 +1,10 @@
 // Lines with escapes, so that a text of any bytes fits on one line.
+ghost use Rattle.std.specs.Prelude.{length};
+ghost use Rattle.std.specs.Iterator.{at_most};
+
 use std::alloc::{AllocError, Global};
 
+// No to_digit of char: a capital is no digit here.
 fn hex_digit(b: u8) -> u8 {
     match b {
         b'0'..=b'9' => b - b'0',
@@ -9,48 +13,44 @@ fn hex_digit(b: u8) -> u8 {
     }
 }
 
-// The byte after a backslash, and how many bytes of the line it takes.
-fn escaped(line: &[u8]) -> (u8, usize) {
-    match line {
-        [b'n', ..] => (b'\n', 1),
-        [b'r', ..] => (b'\r', 1),
-        [b't', ..] => (b'\t', 1),
-        [b'x', a, b, ..] => ((hex_digit(*a) << 4) | hex_digit(*b), 3),
-        [b, ..] => (*b, 1),
-        [] => (b'\\', 1),
-    }
+// The bytes that a part of a line stands for, one after another.
+#[derive(Drop)]
+struct Bytes<'a> {
+    rest: &'a [u8],
 }
 
-// A part of a line without repetitions.
-fn decode_plain(out: &mut Vec<u8>, line: &[u8]) -> Result<(), AllocError> {
-    let mut skip = 0;
-    for (i, b) in line.iter().enumerate() {
-        if skip > 0 {
-            skip -= 1;
-        } else if *b == b'\\' && i + 1 < line.len() {
-            let (byte, taken) = escaped(&line[i + 1..]);
-            out.push(byte)?;
-            skip = taken;
-        } else {
-            out.push(*b)?;
-        }
+impl Iterator for Bytes<'_> {
+    type Item = u8;
+
+    ghost remaining = { λ s. at_most (length s.rest.now) };
+
+    fn next(&mut self) -> Option<u8> {
+        let (byte, rest) = match self.rest {
+            [] => return None,
+            [b'\\', b'n', rest @ ..] => (b'\n', rest),
+            [b'\\', b'r', rest @ ..] => (b'\r', rest),
+            [b'\\', b't', rest @ ..] => (b'\t', rest),
+            [b'\\', b'x', a, b, rest @ ..] => ((hex_digit(*a) << 4) | hex_digit(*b), rest),
+            [b'\\', b, rest @ ..] | [b, rest @ ..] => (*b, rest),
+        };
+        self.rest = rest;
+        Some(byte)
     }
-    Ok(())
 }
 
 // COUNT|TEXT: the text so many times.
 fn repeat(out: &mut Vec<u8>, part: &[u8]) -> Result<(), AllocError> {
-    let mut count: u32 = 0;
-    for (i, b) in part.iter().enumerate() {
-        if *b == b'|' {
-            for _ in 0..count {
-                decode_plain(out, &part[i + 1..])?;
-            }
-            return Ok(());
-        }
-        count = count
-            .saturating_mul(10)
-            .saturating_add(u32::from(hex_digit(*b)));
+    let Some(bar) = part.iter().position(|b| *b == b'|') else {
+        return Ok(());
+    };
+    let count = part[..bar].iter().fold(0u32, |n, b| {
+        n.saturating_mul(10)
+            .saturating_add(u32::from(hex_digit(*b)))
+    });
+    for _ in 0..count {
+        out.extend(Bytes {
+            rest: &part[bar + 1..],
+        })?;
     }
     Ok(())
 }
@@ -58,18 +58,11 @@ fn repeat(out: &mut Vec<u8>, part: &[u8]) -> Result<(), AllocError> {
 // The bytes that a line stands for.
 pub(crate) fn decode(heap: Global, line: &[u8]) -> Result<Vec<u8>, AllocError> {
     let mut out = Vec::new(heap);
-    let mut from = 0;
-    for (i, b) in line.iter().enumerate() {
-        if *b == b'{' && from <= i {
-            decode_plain(&mut out, &line[from..i])?;
-            from = i + 1;
-        } else if *b == b'}' && from <= i {
-            repeat(&mut out, &line[from..i])?;
-            from = i + 1;
+    for part in line.split_inclusive(|b| matches!(*b, b'{' | b'}')) {
+        match part {
+            [repeated @ .., b'}'] => repeat(&mut out, repeated)?,
+            [rest @ .., b'{'] | rest => out.extend(Bytes { rest })?,
         }
-    }
-    if from <= line.len() {
-        decode_plain(&mut out, &line[from..line.len()])?;
     }
     Ok(out)
 }

@@ -5,17 +5,9 @@
 mod escapes;
 
 use escapes::decode;
-use reader::{Layer, read};
+use reader::read;
 use std::alloc::{AllocError, Global};
 use std::io::{BufRead, BufReader};
-
-fn layer_name(layer: Layer) -> &'static str {
-    match layer {
-        Layer::Words => "words",
-        Layer::Text => "text",
-        Layer::Game => "game",
-    }
-}
 
 // What a text reads as, in one line.
 fn outcome(heap: Global, text: &[u8]) -> Result<String, AllocError> {
@@ -30,7 +22,7 @@ fn outcome(heap: Global, text: &[u8]) -> Result<String, AllocError> {
         Err(fault) => {
             let number = fault.number();
             let offset = fault.offset();
-            let layer = layer_name(fault.layer());
+            let layer = fault.layer();
             format!(in heap; "refused {number} at {offset} by {layer}")
         }
     }

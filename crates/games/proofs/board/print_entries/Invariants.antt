@@ -1,6 +1,0 @@
-use Rattle.std.proofs.Common.{length}
-use Rattle.pool.specs.Chains.{records_of}
-use Rattle.games.proofs.board.print_entries.Given as goal
-
-abbrev pub decreases-loop-entry : goal.decreases-loop-entry
-decreases-loop-entry g l = length (records_of l.rest)
