@@ -1,12 +1,12 @@
 -- What one write into the lists of a formula changes, and what it leaves.
 use Rattle.std.proofs.Common.{◌≡◌, ℕ, zero, suc, ◌+◌, ◌-◌, ◌<◌, ◌≤◌, eqb, ◌≢◌, List, [], ◌∷◌, ◌++◌, length, get_or, take, drop, set, ℤ, sym, refl, ap, ◌∙◌, subst, ⊎_elim, arith}
-use Rattle.std.proofs.lemmas.List.{get_or-set_same, get_or-set_other, take-append-le, drop-append-le, take_rest, length-drop, get_or_push, get_or_append_left}
+use Rattle.std.proofs.lemmas.List.{get_or-set_same, get_or-set_other, take-append-le, drop-append-le, take_rest, length-drop, get_or_push, get_or_append_left, length-map}
 use Rattle.std.proofs.lemmas.Bool.{cases_eq, ne_eqb}
 use Rattle.formula.specs.Lists.{each, from, below}
 use Rattle.formula.specs.Found.{binds_at, variables_of}
 use Rattle.formula.specs.Built.{clause_in}
 use Rattle.formula.proofs.Ranges.{keep_same, length_from}
-use Rattle.formula.proofs.Maps.{each-below-push, each_same_from, length-each}
+use Rattle.formula.proofs.Maps.{each-below-push, each_same_from}
 
 -- what a list holds after a write at v: the new value there, the old ones elsewhere
 pub written : {A : Type 0} (P : ℕ → A → Type 0) (l : List A) (v : ℕ) (a d : A) → v < length l → P v a → ((u : ℕ) → u ≢ v → P u (get_or l u d)) → (u : ℕ) → P u (get_or (set l v a) u d)
@@ -66,4 +66,4 @@ module _ (literals : List ℤ) (ends : List ℕ) (k count : ℕ) (rising : (i : 
       (ap (λ b. take (b - get_or (ends ++ count ∷ []) k 0) (drop (get_or (ends ++ count ∷ []) k 0) literals)) new ∙ ap (λ a. take (count - a) (drop a literals)) (old k (omega arith)))
 
 pub count_clauses : (f : ℕ → List ℤ) (k : ℕ) → length (each f (below k)) ≡ k
-count_clauses f k = length-each f (below k) ∙ length_from 0 k
+count_clauses f k = length-map (below k) f ∙ length_from 0 k

@@ -1,11 +1,12 @@
 -- The value of a game, level by level, is the truth, variable by variable.
 use Rattle.std.proofs.Common.{◌≡◌, ℕ, Bool, ◌&&◌, ◌||◌, List, [], ◌∷◌, ◌++◌, length, get_or, ℤ, pos, neg_ℤ, sym, refl, ap, ◌∙◌, ap₂}
+use Rattle.std.proofs.Math.Bool.{or_assoc, and_assoc}
 use Rattle.formula.specs.Lists.{all, any, each, below}
 use Rattle.formula.specs.Game.{other, same, has, Values, choices, Clauses, Play, hits, hit, every_hit}
 use Rattle.formula.specs.declared.side.Side.{Side}
 use Rattle.formula.specs.declared.side.Side.TheVariants.{Ours, Device}
 use Rattle.formula.specs.Truth.{Quantified, prefix, join, truth_from}
-use Rattle.formula.proofs.Tests.{or_assoc, and_assoc, or_false, and_true, or_swap}
+use Rattle.formula.proofs.Tests.{or_false, and_true, or_swap}
 use Rattle.formula.proofs.Members.{any_same, all_same, any_or, any_none}
 
 abbrev pub quantify : {A : Type 0} → Side → (A → Bool) → List A → Bool

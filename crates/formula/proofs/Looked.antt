@@ -5,15 +5,14 @@ use Rattle.std.specs.List.{range_with_len}
 use Rattle.formula.specs.Lists.{each, keep, from, below, elem}
 use Rattle.formula.specs.Found.{first_of}
 use Rattle.std.proofs.lemmas.Bool.Decides.{nat_tests}
-use Rattle.std.proofs.lemmas.List.{get_or_past}
+use Rattle.std.proofs.lemmas.List.{get_or_past, length-map}
 use Rattle.std.proofs.lemmas.List.Sums.{sum_by-cons}
 use Rattle.formula.specs.Game.{Qbf}
 use Rattle.formula.specs.Model.{level_at, clause_at, bound_in}
 use Rattle.formula.proofs.Ranges.{length_from, range_row, keep_here, keep_past}
-use Rattle.formula.proofs.Maps.{length-each}
 
 pub count_levels : (f : ℕ → List ℕ) (k : ℕ) → length (each f (from 1 k)) ≡ k
-count_levels f k = length-each f (from 1 k) ∙ length_from 1 k
+count_levels f k = length-map (from 1 k) f ∙ length_from 1 k
 
 -- the element at j of what a function makes of a row of numbers
 pub each-from_at : {B : Type 0} (f : ℕ → B) (i n j : ℕ) (d : B) → j < n → get_or (each f (from i n)) j d ≡ f (i + j)

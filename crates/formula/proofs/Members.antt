@@ -1,5 +1,5 @@
 -- Lemmas on lists: each element, some element, the elements.
-use Rattle.std.proofs.Common.{◌≡◌, ℕ, zero, suc, Bool, true, false, cond, not, ◌&&◌, ◌||◌, T, ◌⊎◌, List, [], ◌∷◌, ◌++◌, length, drop, sym, refl, ap, ◌∙◌, subst, ap₂, inl, inr, ⊎_elim}
+use Rattle.std.proofs.Common.{◌≡◌, ℕ, zero, suc, Bool, true, false, cond, not, ◌&&◌, ◌||◌, T, ◌⊎◌, List, [], ◌∷◌, ◌++◌, drop, sym, refl, ap, ◌∙◌, subst, ap₂, inl, inr, ⊎_elim}
 use Rattle.formula.specs.Lists.{all, any, In, All, Any, each}
 use Rattle.formula.proofs.Tests.{dec, clash, or_l, or_r, or_cases, nor, nor_l, nor_r, both, and_l, and_r, nand_or, nand_l, nand_r, or_mix}
 
@@ -106,10 +106,6 @@ pub in_map : {A B : Type 0} (f : A → B) (x : A) (l : List A) → In x l → In
 in_map f x [] h = h
 in_map f x (y ∷ l) (inl e) = inl (ap f e)
 in_map f x (y ∷ l) (inr h) = inr (in_map f x l h)
-
-pub length-each : {A B : Type 0} (f : A → B) (l : List A) → length (each f l) ≡ length l
-length-each f [] = refl
-length-each f (x ∷ l) = ap suc (length-each f l)
 
 -- parts of lists
 abbrev pub tail : {A : Type 0} → List A → List A

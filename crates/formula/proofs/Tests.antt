@@ -63,14 +63,6 @@ pub is_false : (b : Bool) → T (not b) → b ≡ false
 is_false true p = absurd p
 is_false false p = refl
 
-pub or_assoc : (a b c : Bool) → (a || b) || c ≡ a || (b || c)
-or_assoc true b c = refl
-or_assoc false b c = refl
-
-pub and_assoc : (a b c : Bool) → (a && b) && c ≡ a && (b && c)
-and_assoc true b c = refl
-and_assoc false b c = refl
-
 -- all, over a set of clauses
 pub all_at : (p : ℕ → Bool) (A : List ℕ) → T (all p A) → (i : ℕ) → T (elem i A) → T (p i)
 all_at p [] h i m = absurd m

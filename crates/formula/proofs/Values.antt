@@ -1,11 +1,12 @@
 -- Equality of values as a test, and the choices of a level.
 use Rattle.std.proofs.Common.{◌≡◌, ℕ, ◌^◌, Bool, true, false, cond, ◌||◌, T, ◌⊎◌, List, [], ◌∷◌, ◌++◌, length, ℤ, pos, negsuc, neg_ℤ, sym, refl, ap, subst, inl, inr, ⊎_elim, pow-suc, arith, eqb→eq, length-append}
+use Rattle.std.proofs.lemmas.List.{length-map}
 use lib.Dec.{eqb_refl}
 use Rattle.formula.specs.Lists.{In, each}
 use Rattle.formula.specs.Game.{same, Values, choices}
 use Rattle.formula.specs.Backward.{is_choice, or_first}
 use Rattle.formula.proofs.Tests.{or_l, or_r, or_cases, both, and_l, and_r, is_true}
-use Rattle.formula.proofs.Members.{in_left, in_right, in_map, length-each}
+use Rattle.formula.proofs.Members.{in_left, in_right, in_map}
 
 pub same_refl : (l : ℤ) → T (same l l)
 same_refl (pos n) = eqb_refl n
@@ -24,8 +25,8 @@ choices-length (v ∷ vs) =
     omega (
       arith,
       length-append (each (λ x. pos v ∷ x) (choices vs)) (each (λ x. neg_ℤ (pos v) ∷ x) (choices vs)),
-      length-each (λ x. pos v ∷ x) (choices vs),
-      length-each (λ x. neg_ℤ (pos v) ∷ x) (choices vs),
+      length-map (choices vs) (λ x. pos v ∷ x),
+      length-map (choices vs) (λ x. neg_ℤ (pos v) ∷ x),
       choices-length vs,
       pow-suc 2 (length vs),
     )

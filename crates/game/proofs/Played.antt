@@ -1,9 +1,8 @@
 -- What a step does, from the parts that it is made of.
 use Rattle.std.proofs.Common.{◌≡◌, ◌<◌, ◌≤◌, false, T, ltb, List, [], length, take, ℤ, None, sym, ap, ◌∙◌, subst}
-use Rattle.std.proofs.lemmas.List.{length-take-le}
+use Rattle.std.proofs.lemmas.List.{length-take-le, length-map}
 use Rattle.std.proofs.lemmas.Bool.{cond-true, cond-false, le-leb, lt-leb, le-ltb}
 use Rattle.formula.specs.declared.side.Side.{Side}
-use Rattle.formula.proofs.Maps.{length-each}
 use Rattle.strategy.specs.Next.{no_level_winner}
 use Rattle.strategy.specs.Next.{Answer as Said, refused}
 use Rattle.strategy.specs.View.{AnswersView}
@@ -46,7 +45,7 @@ module _ (g : Game) (pool : List ℤ) (spare : Spare g pool) (long : g.depth ≤
   -- with no level
   pub done_unasked : (none : g.depth ≤ g.present) (w : Side) → w ≡ no_level_winner (clauses_of g pool) → held g' pool' ≡ decided_for w (held g pool) → Played g pool g' pool'
   done_unasked none w who is =
-      let count : length (view_of g pool).levels ≡ g.depth = length-each (view_level g.variables pool) (take g.depth g.levels) ∙ length-take-le g.depth g.levels long in
+      let count : length (view_of g pool).levels ≡ g.depth = length-map (take g.depth g.levels) (view_level g.variables pool) ∙ length-take-le g.depth g.levels long in
       let never : ltb g.present (length (view_of g pool).levels) ≡ false = ap (ltb g.present) count ∙ le-ltb g.present g.depth none in
       done (refused []) (λ t. absurd (subst T never t))
       (is ∙ ap (λ v. decided_for v (held g pool)) who ∙ sym (cond-true _ _ _ (le-leb g.depth g.present none)))

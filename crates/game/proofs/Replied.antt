@@ -1,5 +1,6 @@
 -- The question about the present level is never refused, and an answer to it is one of the theory.
 use Rattle.std.proofs.Common.{◌≡◌, ℕ, zero, suc, ◌+◌, ◌-◌, ◌*◌, ◌<◌, ◌≤◌, Bool, false, cond, List, [], ◌∷◌, length, get_or, take, drop, ℤ, pos, neg_ℤ, nat_abs, sym, refl, ap, ◌∙◌, subst, arith}
+use Rattle.std.proofs.lemmas.List.{length-map}
 use lib.Signed.{lt_z}
 use Rattle.std.specs.List.{AllByRecursion}
 use Rattle.std.proofs.lemmas.Bool.{cond_both}
@@ -7,7 +8,6 @@ use Rattle.formula.specs.Lists.{keep, from, below}
 use Rattle.formula.specs.Lists.{All as Each}
 use Rattle.formula.specs.declared.side.Side.{Side}
 use Rattle.formula.specs.declared.side.Side.TheVariants.{Ours, Device}
-use Rattle.formula.proofs.Maps.{length-each}
 use Rattle.formula.proofs.Ranges.{length_from}
 use Rattle.pool.specs.Records.{records, Literal}
 use Rattle.engine.specs.declared.question.Answer.{Answer}
@@ -82,7 +82,7 @@ module _ (g : Game) (pool : List ℤ) (limits : Limits g) (sound : SoundPool g p
   σ = (level_of g g.present).side
 
   few_assumed : length (assumptions g.variables g.clauses σ (clauses_assumed g)) ≤ g.clauses
-  few_assumed = let h = keep_few (assumed σ (before g)) (below g.clauses) in let k = length_from 0 g.clauses in let m = length-each (λ i. neg_ℤ (pos (signal g.variables g.clauses σ i))) (clauses_assumed g) in omega arith
+  few_assumed = let h = keep_few (assumed σ (before g)) (below g.clauses) in let k = length_from 0 g.clauses in let m = length-map (clauses_assumed g) (λ i. neg_ℤ (pos (signal g.variables g.clauses σ i))) in omega arith
 
   proper : Proper (question g pool)
   proper =

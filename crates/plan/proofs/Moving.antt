@@ -1,7 +1,7 @@
 -- The newest entry that fits the marked clauses is the next move, which is the recorded plan's.
 use Rattle.std.proofs.Common.{◌≡◌, ℕ, suc, ◌-◌, ◌<◌, ◌≤◌, Bool, true, false, ltb, leb, List, [], ◌∷◌, length, get_or, take, ℤ, sym, refl, ap, ◌∙◌, subst, zero-add, arith}
 use Rattle.std.proofs.lemmas.Bool.{and_parts, leb-true, ltb-true, false≢true}
-use Rattle.std.proofs.lemmas.List.{length-take-le}
+use Rattle.std.proofs.lemmas.List.{length-take-le, length-map}
 use Rattle.formula.specs.Lists.{find, All, In, each, below}
 use Rattle.formula.specs.Game.{choices, Play, PlayOf, hits}
 use Rattle.formula.specs.Sides.{same_side}
@@ -10,7 +10,6 @@ use Rattle.formula.specs.declared.side.Side.TheVariants.{Ours, Device}
 use Rattle.pool.specs.Records.{records}
 use Rattle.formula.proofs.Tests.{is_true}
 use Rattle.formula.proofs.Ranges.{length_from}
-use Rattle.formula.proofs.Maps.{length-each}
 use Rattle.formula.proofs.Looked.{each-from_at}
 use Rattle.strategy.specs.Entries.{Entry, fits_when}
 use Rattle.strategy.specs.RecordedPlan.{values_in, flat, flat_move}
@@ -68,7 +67,7 @@ pub recorded : MoveIsRecorded
 recorded g pool w level π is play =
     let there = level_there g w level is in
     let m = level - 1 in
-    let count : length (levels_of g) ≡ g.depth = length-each (variables_at g) (below g.depth) ∙ length_from 0 g.depth in
+    let count : length (levels_of g) ≡ g.depth = length-map (below g.depth) (variables_at g) ∙ length_from 0 g.depth in
     let in' : level - 1 < g.depth = omega (arith, there.0, there.1) in
     let long : length π ≡ level - 1 = play_length _ π play ∙ length-take-le m (levels_of g) (omega arith) in
     let at : get_or (all_entries_in g pool) (length π) [] ≡ entries_in g pool m =

@@ -1,13 +1,12 @@
 -- A play in one list, level by level; the clauses that it hits, the last clause first.
 use Rattle.std.proofs.Common.{◌≡◌, ℕ, suc, ◌+◌, ◌-◌, ◌<◌, ◌≤◌, Bool, true, false, ◌&&◌, ◌||◌, eqb, ◌≢◌, List, [], ◌∷◌, ◌++◌, length, get_or, take, drop, set, ℤ, pos, neg_ℤ, sym, refl, ap, ◌∙◌, ⊎_elim, zero-add, arith}
-use Rattle.std.proofs.lemmas.List.{drop_more, drop_all, append_assoc, take-append-drop, length-take-le, get_or-take, get_or_append_left, get_or_push, get_or-set_same, get_or-set_other, length-append}
+use Rattle.std.proofs.Math.Bool.{and_assoc}
+use Rattle.std.proofs.lemmas.List.{drop_more, drop_all, append_assoc, take-append-drop, length-take-le, get_or-take, get_or_append_left, get_or_push, get_or-set_same, get_or-set_other, length-append, length-map}
 use Rattle.std.proofs.lemmas.Bool.{and_right, ne_eqb, cases_lt}
 use Rattle.formula.specs.Lists.{any, each, below}
 use Rattle.formula.specs.Game.{same, has, hits}
 use Rattle.formula.specs.Backward.{is_choice, onto, turned}
-use Rattle.formula.proofs.Tests.{and_assoc}
 use Rattle.formula.proofs.Ranges.{length_from}
-use Rattle.formula.proofs.Maps.{length-each}
 use Rattle.formula.proofs.Looked.{each-from_at}
 use Rattle.strategy.specs.RecordedPlan.{flat, is_flat_play}
 
@@ -30,7 +29,7 @@ module _ (f : ℕ → List ℕ) (depth upto m : ℕ) (within : upto ≤ depth) (
   pub levels_next : drop m (take upto (each f (below depth))) ≡ f m ∷ drop (m + 1) (take upto (each f (below depth)))
   levels_next =
       let L = each f (below depth) in
-      let count : length L ≡ depth = length-each f (below depth) ∙ length_from 0 depth in
+      let count : length L ≡ depth = length-map (below depth) f ∙ length_from 0 depth in
       let some : length (take upto L) ≡ upto = length-take-le upto L (omega arith) in
       drop_more (take upto L) m [] (omega arith)
       ∙ ap (λ l. l ∷ drop (m + 1) (take upto L)) (get_or-take upto L m [] here ∙ each-from_at f 0 depth m [] (omega arith) ∙ ap f (zero-add m))
@@ -56,7 +55,7 @@ module _ (f : ℕ → List ℕ) (depth upto m : ℕ) (within : upto ≤ depth) (
 pub play_end : (f : ℕ → List ℕ) (depth upto m : ℕ) → upto ≤ depth → upto ≤ m → (rest : List ℤ) → is_flat_play (drop m (take upto (each f (below depth)))) rest ≡ eqb (length rest) 0
 play_end f depth upto m within past rest =
     let L = each f (below depth) in
-    let count : length L ≡ depth = length-each f (below depth) ∙ length_from 0 depth in
+    let count : length L ≡ depth = length-map (below depth) f ∙ length_from 0 depth in
     let some : length (take upto L) ≡ upto = length-take-le upto L (omega arith) in
     ap (λ ls. is_flat_play ls rest) (drop_all m (take upto L) (omega arith)) ∙ left rest
   where

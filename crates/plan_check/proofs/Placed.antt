@@ -1,11 +1,10 @@
 -- The levels that check is asked about, from a place on.
 use Rattle.std.proofs.Common.{◌≡◌, ℕ, zero, suc, ◌+◌, ◌<◌, ◌≤◌, eqb, List, [], ◌∷◌, length, get_or, take, ℤ, sym, refl, ap, ◌∙◌, ⊎_elim, arith}
-use Rattle.std.proofs.lemmas.List.{drop_more, drop_all, get_or-take, length-take, length-take-le}
+use Rattle.std.proofs.lemmas.List.{drop_more, drop_all, get_or-take, length-take, length-take-le, length-map}
 use Rattle.std.proofs.lemmas.Bool.{cases_eq, eq-eqb, ne_eqb}
 use Rattle.formula.specs.Lists.{each}
 use Rattle.formula.specs.Game.{Clauses}
 use Rattle.formula.specs.declared.side.Side.{Side}
-use Rattle.formula.proofs.Maps.{length-each}
 use Rattle.strategy.specs.Check.{LevelRecords}
 use Rattle.strategy.specs.Records.{open_records}
 use Rattle.strategy.specs.View.{LevelView}
@@ -30,13 +29,13 @@ shown v = record { variables = v.variables; chain = v.chain; entries = v.entries
 
 module _ (g : Game) (pool : List ℤ) where
   count : length (levels_shown g pool) ≡ length (take g.depth g.levels)
-  count = length-each shown (each (view_level g.variables pool) (take g.depth g.levels)) ∙ length-each (view_level g.variables pool) (take g.depth g.levels)
+  count = length-map (each (view_level g.variables pool) (take g.depth g.levels)) shown ∙ length-map (take g.depth g.levels) (view_level g.variables pool)
 
   pub shown_here : (m : ℕ) → m < g.depth → g.depth ≤ length g.levels → shown_from g pool m ≡ level_shown g pool m ∷ shown_from g pool (m + 1)
   shown_here m h long =
       let size = length-take-le g.depth g.levels long in
       let views = each (view_level g.variables pool) (take g.depth g.levels) in
-      let views-long = length-each (view_level g.variables pool) (take g.depth g.levels) in
+      let views-long = length-map (take g.depth g.levels) (view_level g.variables pool) in
       let d : LevelRecords = level_shown g pool m in
       let e : LevelView = view_level g.variables pool nought in
       drop_more (levels_shown g pool) m d (omega (arith, count))

@@ -1,10 +1,11 @@
 -- The level of each variable when blocks are bound one after another, and so the variables of each level.
 use Rattle.std.proofs.Common.{◌≡◌, ℕ, suc, ◌<◌, ◌≤◌, Bool, true, false, cond, not, ◌||◌, T, eqb, List, [], ◌∷◌, ◌++◌, length, get_or, set, sym, refl, ap, ◌∙◌, subst, ⊎_elim, arith, length-set}
+use Rattle.std.proofs.Math.Bool.{or_assoc}
 use Rattle.std.proofs.lemmas.List.{get_or-set_same, get_or-set_other, get_or_past, set_past}
 use Rattle.std.proofs.lemmas.Bool.{cases_eq, cases_lt, eqb-true, ne_eqb, eq-eqb}
 use Rattle.formula.specs.Lists.{elem, each, from}
 use Rattle.formula.specs.Found.{binds_at, variables_of}
-use Rattle.formula.proofs.Tests.{is_true, is_false, clash, dec, nor_l, nor_r, or_cases, or_assoc}
+use Rattle.formula.proofs.Tests.{is_true, is_false, clash, dec, nor_l, nor_r, or_cases}
 use Rattle.formula.proofs.Ranges.{keep_same}
 use Rattle.reader.specs.Grammar.{Block, all_variables, ascending}
 use Rattle.reader.proofs.Bindings.{Free, set_all, length_set_all, free_split}

@@ -1,11 +1,10 @@
 -- The values of a level as flags, and as literals; and the game after a yes below the last level.
 use Rattle.std.proofs.Common.{◌≡◌, ℕ, zero, suc, ◌+◌, ◌<◌, ◌≤◌, Bool, true, false, cond, ◌&&◌, ◌||◌, List, ◌∷◌, length, get_or, set, replicate, ℤ, pos, neg_ℤ, sym, refl, ap, ◌∙◌, subst, ap₂, ⊎_elim, zero-add, add-one, arith}
-use Rattle.std.proofs.lemmas.List.{ext_get_or, get_or-set_other}
+use Rattle.std.proofs.lemmas.List.{ext_get_or, get_or-set_other, length-map}
 use Rattle.std.proofs.lemmas.Bool.{cases_lt, cond_both}
 use Rattle.formula.specs.Lists.{keep, each, elem, from, below}
 use Rattle.formula.specs.Game.{Clauses, Values, has, hits}
 use Rattle.formula.proofs.Looked.{each-from_at, elem_low, elem_kept, elem_high}
-use Rattle.formula.proofs.Maps.{length-each}
 use Rattle.formula.proofs.Ranges.{length_from}
 use Rattle.strategy.specs.Records.{values_of}
 use Rattle.strategy.specs.Next.{satisfied}
@@ -24,7 +23,7 @@ none_set (suc n) zero = refl
 none_set (suc n) (suc i) = none_set n i
 
 pub length_flags : (x : Values) → length (flags_for x) ≡ 257
-length_flags x = length-each (λ v. has (pos v) x) (below 257) ∙ length_from 0 257
+length_flags x = length-map (below 257) (λ v. has (pos v) x) ∙ length_from 0 257
 
 module _ (α p : ℕ → Bool) (n : ℕ) where
   flag : (v : ℕ) → v < 257 → get_or (flags_for (values_of α (keep p (from 1 n)))) v false ≡ (elem v (keep p (from 1 n)) && α v)
@@ -69,7 +68,7 @@ values_kept α n l few =
 -- what is satisfied before the next level, place by place
 pub same_satisfied : (C : Clauses) (x : Values) (l : Level) (flags : List Bool) → length flags ≡ 512 → ((i : ℕ) → get_or flags i false ≡ (hits C x i || get_or l.satisfied i false)) → flags ≡ satisfied_after C x l
 same_satisfied C x l flags long at =
-    ext_get_or false flags (satisfied_after C x l) (long ∙ sym (length-each (λ i. hits C x i || get_or l.satisfied i false) (below 512) ∙ length_from 0 512))
+    ext_get_or false flags (satisfied_after C x l) (long ∙ sym (length-map (below 512) (λ i. hits C x i || get_or l.satisfied i false) ∙ length_from 0 512))
     (λ i h. at i ∙ sym (each-from_at (λ j. hits C x j || get_or l.satisfied j false) 0 512 i false (subst (λ m. i < m) long h) ∙ ap (λ j. hits C x j || get_or l.satisfied j false) (zero-add i)))
 
 -- the game after a yes below the last level

@@ -1,9 +1,8 @@
 -- What is kept of a list, one element more: of the numbers below i, and of what a function makes of the first names.
 use Rattle.std.proofs.Common.{◌≡◌, ℕ, ◌+◌, ◌<◌, Bool, true, false, List, [], ◌∷◌, ◌++◌, get_or, length, take, ℤ, pos, sym, ap, ◌∙◌, zero-add}
-use Rattle.std.proofs.lemmas.List.{take_more, append-nil}
+use Rattle.std.proofs.lemmas.List.{take_more, append-nil, map-append}
 use Rattle.std.proofs.lemmas.Bool.{cond-true, cond-false}
 use Rattle.formula.specs.Lists.{keep, each, below}
-use Rattle.formula.proofs.Maps.{each_append}
 use Rattle.formula.proofs.Ranges.{from-push}
 use Rattle.std.proofs.lemmas.List.Elements.{filter-append}
 
@@ -27,7 +26,7 @@ module _ (p : ℕ → Bool) (i : ℕ) where
 -- of what f makes of the names, where it makes i of the next
 module _ (p : ℕ → Bool) (f : ℤ → ℕ) (names : List ℤ) (j : ℕ) (here : j < length names) (i : ℕ) (is : i ≡ f (get_or names j (pos 0))) where
   next_name : each f (take (j + 1) names) ≡ each f (take j names) ++ i ∷ []
-  next_name = ap (each f) (take_more names j (pos 0) here) ∙ each_append f (take j names) (get_or names j (pos 0) ∷ []) ∙ ap (λ k. each f (take j names) ++ k ∷ []) (sym is)
+  next_name = ap (each f) (take_more names j (pos 0) here) ∙ map-append f (take j names) (get_or names j (pos 0) ∷ []) ∙ ap (λ k. each f (take j names) ++ k ∷ []) (sym is)
 
   pub kept_name : p i ≡ true → keep p (each f (take (j + 1) names)) ≡ keep p (each f (take j names)) ++ i ∷ []
   kept_name t = ap (keep p) next_name ∙ kept p (each f (take j names)) i t

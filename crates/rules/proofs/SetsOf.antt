@@ -1,12 +1,12 @@
 -- The sets that a step enters are sets of the game's clauses; and a level has no more variables than all levels bind.
 use Rattle.std.proofs.Common.{◌≡◌, ℕ, zero, suc, ◌+◌, ◌<◌, ◌≤◌, Bool, false, not, ◌&&◌, List, [], ◌∷◌, length, get_or, take, ℤ, nat_abs, refl, ap, arith}
+use Rattle.std.proofs.lemmas.List.{length-map}
 use Rattle.std.proofs.lemmas.Bool.{cond_both}
 use Rattle.formula.specs.Lists.{keep, All, each, from, below}
 use Rattle.formula.specs.Game.{Clauses, Values, hits}
 use Rattle.formula.specs.Model.{bound_in}
 use Rattle.formula.specs.declared.side.Side.{Side}
 use Rattle.formula.specs.declared.side.Side.TheVariants.{Ours, Device}
-use Rattle.formula.proofs.Maps.{length-each}
 use Rattle.formula.proofs.Ranges.{length_from}
 use Rattle.strategy.specs.Questions.{clause_of, clauses_named}
 use Rattle.strategy.specs.Steps.{last_entry_set, entry_set}
@@ -58,7 +58,7 @@ pub named_set_of : (g : Game) (C : Clauses) (σ : Side) (names : List ℤ) (x : 
 named_set_of g C σ names x few named =
     let A = clauses_named g.variables g.clauses σ names in
     let small = entry_small C σ A x g.clauses (names_small g.variables g.clauses σ names named) in
-    let long : length A ≡ length names = length-each (clause_of g.variables g.clauses σ) names in
+    let long : length A ≡ length names = length-map names (clause_of g.variables g.clauses σ) in
     record { few = omega (arith, small.1); clauses = all_at g.clauses (entry_set C σ A x) small.0 }
 
 -- the variables of one level, and those of all

@@ -1,14 +1,13 @@
 -- Every rule of a step, as table and pool show it.
 use Rattle.std.proofs.Common.{◌≡◌, ℕ, zero, suc, ◌<◌, ◌≤◌, Bool, true, false, ◌||◌, ltb, leb, List, length, get_or, take, set, ℤ, Some, None, Option, sym, refl, ap, ◌∙◌, subst, ap₂, ⊎_elim, arith}
 use mathlib.Core.Path.{fun_ext}
-use Rattle.std.proofs.lemmas.List.{get_or-set_same, get_or-set_other, length-set, length-take-le}
+use Rattle.std.proofs.lemmas.List.{get_or-set_same, get_or-set_other, length-set, length-take-le, length-map}
 use Rattle.std.proofs.lemmas.Bool.{cond-true, cond-false, cases_lt, cases_eq, lt-ltb, le-ltb, lt-leb, le-leb}
 use Rattle.formula.specs.Lists.{each}
 use Rattle.formula.specs.Game.{other, Values, hits}
 use Rattle.formula.specs.Proper.{Ascending}
 use Rattle.formula.specs.declared.side.Side.{Side}
 use Rattle.formula.specs.declared.side.Side.TheVariants.{Ours}
-use Rattle.formula.proofs.Maps.{length-each}
 use Rattle.strategy.specs.Records.{values_of}
 use Rattle.strategy.specs.Steps.{last_entry_set, entry_set}
 use Rattle.strategy.specs.Next.{no_level_winner}
@@ -143,7 +142,7 @@ module _ (g : Game) (pool : List ℤ) (spare : Spare g pool) (long : g.depth ≤
       (noted_next g pool spare long undecided (other σ) i before (entry_set C σ A x) (λ v. get_or (level_of g (suc i)).values v false) (entry_ascending C σ A x g.clauses a))
 
   count : length (level_views g pool) ≡ g.depth
-  count = length-each (view_level g.variables pool) (take g.depth g.levels) ∙ length-take-le g.depth g.levels long
+  count = length-map (take g.depth g.levels) (view_level g.variables pool) ∙ length-take-le g.depth g.levels long
 
   changed_follows : (a : Said) → g.present < g.depth → OfLevel g a → Marked g pool a → Follows g pool (changed g pool a) (answered (clauses_of g pool) g.variables (level_views g pool) g.present a)
   changed_follows (refused A) here of marked = given_back_follows g.present refl here A of

@@ -1,6 +1,6 @@
 -- A step as table and pool show it: the rules word for word are the rules of the theory, and the pool stays sound.
 use Rattle.std.proofs.Common.{◌≡◌, ℕ, zero, suc, ◌+◌, ◌-◌, ◌<◌, ◌≤◌, Bool, false, not, ◌&&◌, List, [], ◌∷◌, length, get_or, take, set, ℤ, Some, None, Option, sym, refl, ap, ◌∙◌, subst, ap₂, arith}
-use Rattle.std.proofs.lemmas.List.{get_or-set_other, length-set}
+use Rattle.std.proofs.lemmas.List.{get_or-set_other, length-set, length-map}
 use Rattle.std.proofs.lemmas.Bool.{cond_both}
 use Rattle.formula.specs.Lists.{keep, All, each, from, below}
 use Rattle.formula.specs.Game.{Clauses, Values, hits}
@@ -8,7 +8,6 @@ use Rattle.formula.specs.Backward.{turned}
 use Rattle.formula.specs.Proper.{Ascending}
 use Rattle.formula.specs.declared.side.Side.{Side}
 use Rattle.formula.specs.declared.side.Side.TheVariants.{Ours, Device}
-use Rattle.formula.proofs.Maps.{length-each}
 use Rattle.pool.specs.Append.{Room}
 use Rattle.strategy.specs.Records.{values_of, entry_record, learned_record}
 use Rattle.strategy.specs.Steps.{last_entry_set, entry_set}
@@ -92,7 +91,7 @@ module _ (g : Game) (pool : List ℤ) (spare : Spare g pool) (long : g.depth ≤
     small = ascending_small 0 g.clauses A ascending
 
     few : length x ≤ bound_by g
-    few = subst (λ m. m ≤ bound_by g) (sym (length-each _ (variables_at g j))) (level_few g j here)
+    few = subst (λ m. m ≤ bound_by g) (sym (length-map (variables_at g j) _)) (level_few g j here)
 
     room : Room (length pool) g.used (level_of g j).entries (length entry_numbers)
     room = subst (Room (length pool) g.used (level_of g j).entries) (sym (length_entry g.variables (level_of g j).side A x)) (entry_room g pool j A x spare here (ascending_set g A ascending) few)
@@ -137,7 +136,7 @@ module _ (g : Game) (pool : List ℤ) (spare : Spare g pool) (long : g.depth ≤
       let t = learned C s i A in
       let first = sound₁ w (suc i) here A α a in
       let small = ascending_small 0 g.clauses A a in
-      let few : length x ≤ bound_by g = subst (λ m. m ≤ bound_by g) (sym (length-each _ (variables_at g (suc i)))) (level_few g (suc i) here) in
+      let few : length x ≤ bound_by g = subst (λ m. m ≤ bound_by g) (sym (length-map (variables_at g (suc i)) _)) (level_few g (suc i) here) in
       let before : i < s.game.depth = omega arith in
       let long' : s.game.depth ≤ length s.game.levels = subst (λ m. g.depth ≤ m) (sym (length-set g.levels (suc i) _)) long in
       let named = learned_named g A small C (level_of s.game i).side count in

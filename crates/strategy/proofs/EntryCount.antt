@@ -1,9 +1,10 @@
 -- Each entry belongs to the play at which it was made, which no older entry of its level fits; so there are few.
 use Rattle.std.proofs.Common.{◌≡◌, ℕ, ◌+◌, ◌*◌, ◌^◌, ◌<◌, ◌≤◌, Bool, true, false, not, T, List, [], ◌∷◌, ◌++◌, length, sym, refl, ◌∙◌, subst, ap₂, inl, inr, ⊎_elim, suc-mul, arith, length-append, pow-add}
+use Rattle.std.proofs.lemmas.List.{length-map}
 use lib.Dec.{not_T}
 use Rattle.formula.specs.Game.{other, Values, choices, Clauses, Play, hits, hit}
 use Rattle.formula.specs.Lists.{all, any, count, In, All, Any, each, elem}
-use Rattle.formula.proofs.Members.{in_left, in_right, in_map, all_map, length-each}
+use Rattle.formula.proofs.Members.{in_left, in_right, in_map, all_map}
 use Rattle.formula.proofs.Tests.{clash, or_l, or_r, or_cases, nor_l, nor_r, all_at, all_from, kept_in, kept_passes}
 use Rattle.formula.proofs.Values.{choices-length}
 use Rattle.strategy.specs.Counts.{NoSuperset, FewEntries}
@@ -62,7 +63,7 @@ in_extend x π (y ∷ xs) U (inr h) k = in_right (x ∷ π) (each (λ ρ. y ∷ 
 length_extend : (xs : List Values) (U : List Play) → length (prepend_each xs U) ≡ length xs * length U
 length_extend [] U = sym (native.Mathlib.Nat.zero-mul (length U))
 length_extend (x ∷ xs) U =
-    omega (arith, length-append (each (λ ρ. x ∷ ρ) U) (prepend_each xs U), length-each (λ (ρ : Play). x ∷ ρ) U, length_extend xs U, suc-mul (length xs) (length U))
+    omega (arith, length-append (each (λ ρ. x ∷ ρ) U) (prepend_each xs U), length-map U (λ (ρ : Play). x ∷ ρ), length_extend xs U, suc-mul (length xs) (length U))
 
 none_left : {A : Type 0} (f : A → Bool) (l : List A) → All (λ a. ⊥) l → T (not (any f l))
 none_left f [] h = tt

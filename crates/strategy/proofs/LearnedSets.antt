@@ -1,8 +1,8 @@
 -- What a level has learned is what the next level has entered.
 use Rattle.std.proofs.Common.{◌≡◌, ℕ, ◌+◌, ◌^◌, ◌≤◌, List, [], ◌∷◌, length, sym, refl, ap, ◌∙◌, subst, arith}
+use Rattle.std.proofs.lemmas.List.{length-map}
 use Rattle.formula.specs.Game.{Values, Clauses, hit}
 use Rattle.formula.specs.Lists.{each}
-use Rattle.formula.proofs.Members.{length-each}
 use Rattle.strategy.specs.Counts.{FewEntries, sets_of, LearnedAreEntries, FewLearned}
 use Rattle.strategy.specs.Entries.{Entry, LevelState, entries_of}
 use Rattle.strategy.specs.Steps.{KeptLevel, played, State, learn, enter, last_entry_set, entry_set, no_level_ours, no_level_device, yes_below_last, yes_only_level, yes_at_last, no_first, no_second, no_later, here, more, new_level, opened, all_levels, states_of}
@@ -50,7 +50,7 @@ few : (r : ℕ) (f : List LevelState) → LearnedAreEntries f → FewEntries r f
 few r [] h k = tt
 few r (s ∷ []) h k = (subst (λ l. length l ≤ 2 ^ (length s.variables + r)) (sym h.0) (omega arith), tt)
 few r (s ∷ n ∷ f) h k =
-    (subst (λ l. length l ≤ 2 ^ (length s.variables + r)) (sym h.0) (omega (arith, length-each (λ (e : Entry). e.set) n.entries, k.2.1)), few (length s.variables + r) (n ∷ f) h.1 k.2)
+    (subst (λ l. length l ≤ 2 ^ (length s.variables + r)) (sym h.0) (omega (arith, length-map n.entries (λ (e : Entry). e.set), k.2.1)), few (length s.variables + r) (n ∷ f) h.1 k.2)
 
 pub learned_few : (C : Clauses) (σ : Side) (levels : List (List ℕ)) (n : ℕ) (b : State) → MeaningSteps C n (opened σ levels) b → FewLearned 0 (states_of b)
 learned_few C σ levels n b ss = few 0 (states_of b) (learned_entered C σ levels n b ss) (entries_few C σ levels n b ss)

@@ -1,10 +1,11 @@
 -- How chains grow; the order of their records; plays as one list; entries by sets.
 use Rattle.std.proofs.Common.{◌≡◌, ℕ, ◌<◌, ◌≤◌, Bool, true, false, not, ◌||◌, T, leb, List, [], ◌∷◌, ◌++◌, length, get_or, ℤ, sym, refl, ap, ◌∙◌, subst, ap₂, inl, inr, ⊎_elim, arith, le→leb, leb→le}
+use Rattle.std.proofs.Math.Bool.{or_assoc}
 use Rattle.formula.specs.Game.{same, has, Values, Clauses, Play, hits, hit}
 use Rattle.std.proofs.lemmas.List.{get_or_past}
 use Rattle.formula.specs.Lists.{any, In, elem, below}
 use Rattle.formula.proofs.Members.{any_or, any_none, any_same, all_same, all_here}
-use Rattle.formula.proofs.Tests.{dec, clash, or_assoc, both, in_below, keep_in, kept_passes}
+use Rattle.formula.proofs.Tests.{dec, clash, both, in_below, keep_in, kept_passes}
 use Rattle.strategy.specs.Entries.{Entry, fits, fits_set, hit_set, LevelState}
 use Rattle.strategy.specs.Records.{holds, satisfies, learned_record, chain}
 use Rattle.strategy.specs.RecordedPlan.{flat}

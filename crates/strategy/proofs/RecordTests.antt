@@ -1,11 +1,12 @@
 -- Tests over records, and the values of an assignment.
 use Rattle.std.proofs.Common.{◌≡◌, ℕ, zero, suc, Bool, true, false, cond, not, ◌&&◌, ◌||◌, T, eqb, ◌⊎◌, List, [], ◌∷◌, ◌++◌, get_or, ℤ, pos, negsuc, neg_ℤ, nat_abs, sym, refl, ap, ◌∙◌, subst, ap₂, inl, inr, ⊎_elim, not-suc-le-zero, eqb→eq}
+use Rattle.std.proofs.Math.Bool.{or_assoc, and_assoc}
 use lib.Dec.{eqb-suc-suc, eqb-zero-suc}
 use Rattle.formula.specs.Game.{same, has, Clauses, hits}
 use Rattle.formula.specs.Backward.{onto, turned}
 use Rattle.formula.specs.Lists.{In, all, any, keep, All, each, elem}
 use Rattle.formula.proofs.Members.{any_same, all_same}
-use Rattle.formula.proofs.Tests.{and_true, or_assoc, and_assoc, and_l, and_r, both}
+use Rattle.formula.proofs.Tests.{and_true, and_l, and_r, both}
 use Rattle.strategy.specs.Records.{holds, literals_on, gather, values_of}
 use Rattle.strategy.specs.WellFormed.{ProperLevel}
 

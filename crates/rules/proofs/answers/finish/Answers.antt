@@ -1,8 +1,8 @@
 use Rattle.std.proofs.Common.{◌≡◌, ℕ, ◌-◌, ◌≤◌, Bool, false, length, get_or, pos, sym, ap, ◌∙◌, subst}
+use Rattle.std.proofs.lemmas.List.{length-map}
 use lib.Signed.{lt_z}
 use Rattle.formula.specs.Game.{Values}
 use Rattle.formula.specs.declared.side.Side.TheVariants.{Ours}
-use Rattle.formula.proofs.Maps.{length-each}
 use Rattle.strategy.specs.Records.{values_of}
 use Rattle.strategy.specs.Steps.{last_entry_set}
 use Rattle.layout.specs.Table.{level_of}
@@ -23,7 +23,7 @@ note-requires c =
     let x = values_in g.variables (values_to c.read_level_values-chosen.result l) in
     let is : c.as_slice.result.now ≡ last_entry_set C before x = c.as_slice.ensures.value ∙ c.last_set-set.ensures.clauses in
     let few : length x ≤ bound_by g =
-    subst (λ m. m ≤ bound_by g) (sym (length-each _ (variables_in g.variables l))) (level_few g g.present c.requires.1.0) in
+    subst (λ m. m ≤ bound_by g) (sym (length-map (variables_in g.variables l) _)) (level_few g g.present c.requires.1.0) in
     (c.requires.0, (c.requires.1.0, (subst (SetOf g) (sym is) (last_set_of g C before x (length_clauses g c.args.pool.now c.requires.0.sound.formula)), few)))
 
 pub returns : goal.returns

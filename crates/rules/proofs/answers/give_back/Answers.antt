@@ -1,5 +1,5 @@
 use Rattle.std.proofs.Common.{◌≡◌, ◌-◌, ◌<◌, ◌≤◌, length, sym, ◌∙◌, subst, arith}
-use Rattle.formula.proofs.Maps.{length-each}
+use Rattle.std.proofs.lemmas.List.{length-map}
 use Rattle.strategy.specs.Questions.{clauses_named}
 use Rattle.strategy.specs.Steps.{entry_set}
 use Rattle.layout.specs.Table.{level_of}
@@ -17,5 +17,5 @@ note-requires c =
     let x = values_in g.variables (level_of g (m - 1)) in
     let is : c.as_slice.result.now ≡ entry_set C σ (clauses_named g.variables g.clauses σ c.args.names.now) x = c.as_slice.ensures.value ∙ c.named_set-set.ensures.clauses in
     let here : m - 1 < g.depth = omega (arith, c.requires.1.1.0) in
-    let few : length x ≤ bound_by g = subst (λ n. n ≤ bound_by g) (sym (length-each _ (variables_in g.variables (level_of g (m - 1))))) (level_few g (m - 1) here) in
+    let few : length x ≤ bound_by g = subst (λ n. n ≤ bound_by g) (sym (length-map (variables_in g.variables (level_of g (m - 1))) _)) (level_few g (m - 1) here) in
     (c.requires.0, (here, (subst (SetOf g) (sym is) (named_set_of g C σ c.args.names.now x c.requires.1.1.1.0 c.requires.1.1.1.1), few)))

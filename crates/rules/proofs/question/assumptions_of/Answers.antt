@@ -1,7 +1,7 @@
 use Rattle.std.proofs.Common.{ℕ, Bool, false, [], ◌∷◌, ◌++◌, get_or, ℤ, pos, neg_ℤ, sym, refl, ap, ◌∙◌, arith, w32, SFits, rules}
+use Rattle.std.proofs.lemmas.List.{map-append}
 use Rattle.std.proofs.lemmas.Int.{to_z-of_z}
 use Rattle.formula.specs.Lists.{keep, each, below}
-use Rattle.formula.proofs.Maps.{each_append}
 use Rattle.strategy.specs.Signals.{signal}
 use Rattle.strategy.specs.Questions.{assumed}
 use Rattle.rules.proofs.Picked.{kept_below, left_below}
@@ -24,6 +24,6 @@ loop-clause-preserved c =
     let fits : SFits w32 c.assumption.result = search rules in
     let e = kept_below p i (sym (c.if-not-is_assumed.ensures before i refl)) in (
       c.push.ensures.items ∙ ap (λ x. c.loop-clause.assumed.items ++ x ∷ []) (to_z-of_z w32 c.assumption.result fits ∙ c.assumption.ensures) ∙ ap (λ l. l ++ g i ∷ []) c.loop-clause.invariant.0
-          ∙ sym (each_append g (keep p (below i)) (i ∷ [])) ∙ sym (ap (each g) e),
+          ∙ sym (map-append g (keep p (below i)) (i ∷ [])) ∙ sym (ap (each g) e),
       omega (arith, c.loop-clause.invariant.1, c.push.ensures.len),
     )
