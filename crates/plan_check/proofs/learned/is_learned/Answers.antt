@@ -33,7 +33,7 @@ returns c =
     let flags = c.mark.new.flags in
     let same : (i : ℕ) → get_or flags i false ≡ elem i A = flagged flags (replicate 512 false) A c.mark.ensures nothing_before in
     let P : Entry → Type 0 = λ e. T (all (λ i. elem i A) e.set) in
-    let next = shown_here g c.args.pool.now (c.args.m + 1) (omega arith) (omega (arith, c.requires.0.limits.2, c.requires.0.places)) in
+    let next = shown_here g c.args.pool.now (c.args.m + 1) (omega arith) c.requires.0 in
     Decides-like c.is_entered.result
     (λ h. (test_true _ (sym c.if-not-are_learned_numbers.ensures), subst (λ (l : List LevelRecords). Any P (entries_at l)) (sym next) (any_flagged (λ i. get_or flags i false) (λ i. elem i A) same _ h)))
     (λ w. any_flagged (λ i. elem i A) (λ i. get_or flags i false) (λ i. sym (same i)) _ (subst (λ (l : List LevelRecords). Any P (entries_at l)) next w.1))
