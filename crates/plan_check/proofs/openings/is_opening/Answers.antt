@@ -24,11 +24,6 @@ loop-clause-init c =
       (λ i l u h. absurd (omega arith)),
     )
 
-pub is_clause_record-requires : goal.is_clause_record-requires
-is_clause_record-requires c =
-    let more = ap length c.in-Some.ensures.records in
-    (c.requires.0.limits, (c.requires.1, omega (arith, c.loop-clause.invariant.0, c.loop-clause.invariant.1, more)))
-
 pub returns-then-is_clause_record : goal.returns-then-is_clause_record
 returns-then-is_clause_record c =
     let g = c.args.game.now in

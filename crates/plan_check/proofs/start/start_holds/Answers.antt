@@ -62,19 +62,3 @@ returns-in-Device-Device g c =
     let some : 0 < c.args.game.now.depth = omega arith in
     let is = shown_here game pool 0 some c.requires.0 in
     start_like C game.variables c.args.side Device c.args.first Device (levels_shown game pool) _ c.has_entry.result c.in-Device-Device.is-0 c.in-Device-Device.is-1 is c.has_entry.ensures
-
-pub is_entered-requires : goal.is_entered-requires
-is_entered-requires g c =
-    let some : 0 < c.args.game.now.depth = omega arith in
-    (c.requires.0.limits, (omega arith, (c.requires.0.sound.levels 0 some).entries))
-
-pub has_entry-requires : goal.has_entry-requires
-has_entry-requires g c =
-    let some : 0 < c.args.game.now.depth = omega arith in
-    (c.requires.0.limits, (omega arith, (c.requires.0.sound.levels 0 some).entries))
-
-pub is_unsatisfiable-requires : goal.is_unsatisfiable-requires
-is_unsatisfiable-requires g c = (c.requires.0, (omega arith, c.requires.1))
-
-pub is_unsatisfiable-requires-in-Device-Ours : goal.is_unsatisfiable-requires-in-Device-Ours
-is_unsatisfiable-requires-in-Device-Ours g c = (c.requires.0, (omega arith, c.requires.1))
