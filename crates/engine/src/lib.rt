@@ -9,7 +9,7 @@ mod tally;
 mod words;
 
 pub use admission::{MAX_SIGNALS, admit, admit_size, largest_above};
-pub use asking::{Engine, answers_agree};
+pub use asking::{Engine, answers_agree, says_no};
 pub use counting::Counting;
 pub use question::{Answer, Question, Refusal};
 pub use tally::Tally;

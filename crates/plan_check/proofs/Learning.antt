@@ -1,36 +1,13 @@
 -- Learned records by their numbers, as flags have them.
-use Rattle.std.proofs.Common.{◌≡◌, ℕ, zero, suc, ◌+◌, ◌*◌, ◌<◌, ◌≤◌, Bool, true, false, cond, T, ◌↔◌, List, [], ◌∷◌, length, get_or, ℤ, pos, negsuc, nat_abs, refl, ap, ◌∙◌, subst, arith}
-use Rattle.std.specs.List.{AllByRecursion}
-use Rattle.std.proofs.ByRecursion.{All-get_or}
-use Rattle.std.proofs.lemmas.Bool.{and_parts, leb-true, ltb-true, false≢true}
+use Rattle.std.proofs.Common.{◌≡◌, ℕ, Bool, true, false, cond, T, ◌↔◌, List, length, get_or, ℤ, refl, ap, ◌∙◌, subst}
 use Rattle.formula.specs.Lists.{all, Any, elem}
 use Rattle.formula.specs.Game.{Clauses}
 use Rattle.formula.specs.declared.side.Side.{Side}
-use Rattle.formula.specs.declared.side.Side.TheVariants.{Ours, Device}
 use Rattle.formula.proofs.Members.{any_map, all_same}
-use Rattle.pool.specs.Records.{Literal}
 use Rattle.strategy.specs.Entries.{Entry}
 use Rattle.strategy.specs.Records.{learned_record}
 use Rattle.strategy.specs.Check.{is_learned_number, learned_set_of}
 use Rattle.strategy.proofs.Flats.{learned_by_numbers}
-use Rattle.plan.specs.Naming.{Behind}
-
-above : (n k : ℕ) (σ : Side) (x : ℤ) → is_learned_number n k σ x ≡ true → n + k < nat_abs x
-above n k Ours (pos m) e = absurd (false≢true e)
-above n k Ours (negsuc m) e = let h : n + k ≤ m = leb-true (n + k) m e in omega arith
-above n k Device (pos m) e = ltb-true (n + k) m e
-above n k Device (negsuc m) e = absurd (false≢true e)
-
-all_above : (n k : ℕ) (σ : Side) (xs : List ℤ) → all (is_learned_number n k σ) xs ≡ true → (j : ℕ) → j < length xs → n + k < nat_abs (get_or xs j (pos 0))
-all_above n k σ [] e j h = absurd (omega arith)
-all_above n k σ (x ∷ xs) e zero h = above n k σ x (and_parts (is_learned_number n k σ x) (all (is_learned_number n k σ) xs) e).0
-all_above n k σ (x ∷ xs) e (suc j) h = all_above n k σ xs (and_parts (is_learned_number n k σ x) (all (is_learned_number n k σ) xs) e).1 j (omega arith)
-
--- learned numbers name clauses
-pub learned_behind : (n k : ℕ) (σ : Side) (xs : List ℤ) → k ≤ 512 → all (is_learned_number n k σ) xs ≡ true → AllByRecursion (Literal (n + 2 * k)) xs → Behind (n + k) xs
-learned_behind n k σ xs few e literals j h =
-    let r = All-get_or (Literal (n + 2 * k)) xs j (pos 0) h literals in
-    (all_above n k σ xs e j h, omega (arith, r.1))
 
 -- flags that are set at just these clauses
 pub flagged : (flags old : List Bool) (A : List ℕ) → ((i : ℕ) → get_or flags i false ≡ cond (elem i A) true (get_or old i false)) → ((i : ℕ) → get_or old i false ≡ false) → (i : ℕ) → get_or flags i false ≡ elem i A

@@ -104,6 +104,7 @@ pub(crate) fn entries_hold<E: Engine>(
     requires { (Readable game.now pool.now) × ((m < game.now.depth) × (signals_of game.now ≤ E.Engine.most)) }
     ensures { Decides result (All (EntryCheck (clauses_of game.now pool.now) game.now.variables side (shown_from game.now pool.now (m + 1))) (entries_in game.now pool.now m)) }
 {
+    // A loop: each question changes the engine.
     let mut rest = chain(game, pool, game.levels[m].entries);
     while let Some(entry) = rest.next() {
         if !entry_holds(engine, game, pool, m, side, entry) {

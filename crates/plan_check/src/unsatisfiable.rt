@@ -3,24 +3,14 @@ ghost use Rattle.std.specs.Prelude.{◌<◌, ◌≤◌, false, Decides, slice_in
 ghost use Rattle.pool.specs.Records.{records};
 ghost use Rattle.strategy.specs.Records.{Unsatisfiable, assumptions};
 ghost use Rattle.strategy.specs.Questions.{assumed_clauses};
-ghost use Rattle.engine.specs.Asking.{asked};
-ghost use Rattle.engine.specs.Meaning.{clauses, Proper, Clash};
 ghost use Rattle.layout.specs.Table.{level_of};
 ghost use Rattle.layout.specs.Viewed.{signals_of};
 ghost use Rattle.plan_check.specs.Readable.{Readable};
 
-use engine::{Answer, Engine, Question};
+use engine::{Engine, Question, says_no};
 use formula::Side;
 use layout::{Game, count_signals};
 use rules::assumptions_of;
-
-// Whether the engine says no to a question that it takes.
-fn says_no<E: Engine>(engine: &mut E, question: Question, answer: &mut [i32; 1280]) -> bool
-    requires { (question.signals ≤ E.Engine.most) × ((question.signals ≤ 1280) × (Proper (asked question))) }
-    ensures { Decides result (Clash (clauses (asked question.entry)) (asked question.entry).assumed) }
-{
-    matches!(engine.ask(question, answer), Ok(Answer::No(_)))
-}
 
 // Whether the chain of the level m, taken as one of the side, is unsatisfiable under what a question assumes where these clauses are satisfied.
 pub(crate) fn is_unsatisfiable<E: Engine>(

@@ -6,8 +6,8 @@ ghost use Rattle.layout.specs.Table.{Limits};
 ghost use Rattle.layout.specs.Viewed.{values_in, clauses_of};
 ghost use Rattle.soundness.specs.Soundness.{SoundFormula};
 
-use layout::{Game, Level, count_signals, magnitude};
-use pool::Chain;
+use layout::{Game, Level, magnitude};
+use soundness::chain;
 
 // Whether a literal is among the values of a level.
 pub(crate) fn is_true(variables: usize, level: &Level, literal: i32) -> bool
@@ -34,10 +34,10 @@ pub(crate) fn mark_hits(game: &Game, level: &Level, pool: &[i32], marks: &mut [b
     requires { (Limits game.now) × (SoundFormula game.now pool.now) }
     ensures { (i : ℕ) → slice_index_or marks.new i false ≡ (hits (clauses_of game.now pool.now) (values_in game.now.variables level.now) i || slice_index_or marks.old i false) }
 {
-    let mut chain = Chain::new(count_signals(game), pool, game.used, game.formula);
+    let mut rest = chain(game, pool, game.formula);
     // counted down by hand: the chain has the last clause first, and a chain does not know its length
     let mut left = game.clauses;
-    while let Some(clause) = chain.next() {
+    while let Some(clause) = rest.next() {
         left -= 1;
         if !is_hit(game.variables, level, clause) {
             continue;

@@ -6,7 +6,7 @@ ghost use Rattle.engine.specs.Meaning.{clauses, Proper, Clash, Part, Answered};
 ghost use Rattle.trimmer.specs.Trim.{assuming, without, Needed, Trimmed};
 
 use engine::{
-    Answer, Engine, MAX_SIGNALS, Question, Refusal, admit_size, copy_front, largest_above,
+    Answer, Engine, MAX_SIGNALS, Question, Refusal, admit_size, copy_front, largest_above, says_no,
 };
 
 // Copies the named assumptions but for the one at i.
@@ -32,7 +32,7 @@ fn clashes<'a, E: Engine>(
         assumptions: trial,
         ..question
     };
-    matches!(below.ask(tried, answer), Ok(Answer::No(_)))
+    says_no(below, tried, answer)
 }
 
 #[derive(Drop)]

@@ -1,13 +1,12 @@
 use Rattle.std.proofs.Common.{◌≡◌, ℕ, ◌+◌, false, T, List, get_or, replicate, sym, subst, arith}
-use Rattle.std.proofs.lemmas.Bool.{false≢true, both_ways}
+use Rattle.std.proofs.lemmas.Bool.{false≢true}
 use Rattle.std.proofs.lemmas.Bool.Decides.{Decides-like}
 use Rattle.formula.specs.Lists.{all, Any, elem}
-use Rattle.formula.proofs.Tests.{is_true}
 use Rattle.strategy.specs.Entries.{Entry}
 use Rattle.strategy.specs.Check.{LevelRecords, entries_at, learned_set_of}
 use Rattle.layout.proofs.Shown.{nothing_before}
 use Rattle.soundness.proofs.Rows.{test_true}
-use Rattle.plan_check.proofs.Learning.{learned_behind, flagged, any_flagged}
+use Rattle.plan_check.proofs.Learning.{flagged, any_flagged}
 use Rattle.plan_check.proofs.Placed.{shown_here, shown_end}
 use Rattle.plan_check.proofs.learned.is_learned.Goals as goal
 
@@ -18,14 +17,6 @@ returns-then-m-game c =
     let none = shown_end g c.args.pool.now (c.args.m + 1) (omega arith) in
     (λ f. absurd (false≢true f), λ w. absurd (subst (λ (l : List LevelRecords). Any P (entries_at l)) none w.1))
 
-pub returns-then-not-are_learned_numbers : goal.returns-then-not-are_learned_numbers
-returns-then-not-are_learned_numbers c = (λ f. absurd (false≢true f), λ w. absurd (both_ways _ (sym c.if-not-are_learned_numbers.ensures) (is_true _ w.0)))
-
-pub mark-requires : goal.mark-requires
-mark-requires c =
-    let g = c.args.game.now in
-    (omega (arith, c.requires.0.limits.0, c.requires.0.limits.1), learned_behind g.variables g.clauses c.args.side c.args.numbers.now c.requires.0.limits.1 (sym c.if-not-are_learned_numbers.ensures) c.requires.1.1)
-
 pub returns : goal.returns
 returns c =
     let g = c.args.game.now in
@@ -33,7 +24,7 @@ returns c =
     let flags = c.mark.new.flags in
     let same : (i : ℕ) → get_or flags i false ≡ elem i A = flagged flags (replicate 512 false) A c.mark.ensures nothing_before in
     let P : Entry → Type 0 = λ e. T (all (λ i. elem i A) e.set) in
-    let next = shown_here g c.args.pool.now (c.args.m + 1) (omega arith) (omega (arith, c.requires.0.limits.2, c.requires.0.places)) in
+    let next = shown_here g c.args.pool.now (c.args.m + 1) (omega arith) c.requires.0 in
     Decides-like c.is_entered.result
     (λ h. (test_true _ (sym c.if-not-are_learned_numbers.ensures), subst (λ (l : List LevelRecords). Any P (entries_at l)) (sym next) (any_flagged (λ i. get_or flags i false) (λ i. elem i A) same _ h)))
     (λ w. any_flagged (λ i. elem i A) (λ i. get_or flags i false) (λ i. sym (same i)) _ (subst (λ (l : List LevelRecords). Any P (entries_at l)) next w.1))

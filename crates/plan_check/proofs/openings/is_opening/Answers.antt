@@ -24,11 +24,6 @@ loop-clause-init c =
       (λ i l u h. absurd (omega arith)),
     )
 
-pub is_clause_record-requires : goal.is_clause_record-requires
-is_clause_record-requires c =
-    let more = ap length c.in-Some.ensures.records in
-    (c.requires.0.limits, (c.requires.1, omega (arith, c.loop-clause.invariant.0, c.loop-clause.invariant.1, more)))
-
 pub returns-then-is_clause_record : goal.returns-then-is_clause_record
 returns-then-is_clause_record c =
     let g = c.args.game.now in
@@ -47,7 +42,7 @@ returns-then-is_clause_record c =
     let count : length C ≡ g.clauses = omega (arith, length-onto (records c.args.pool.now g.formula) [], c.requires.0.sound.formula.count) in
     let made = made_here C g.variables g.clauses c.args.side vs last count rest inv.2.0 k left is long in
     let found : In ys (clause_records C g.variables c.args.side vs last (left - 1)) = subst (In ys) (sym made) (c.if-is_clause_record.ensures.0 refl) in
-    let same = open_here g c.args.pool.now C g.variables c.args.side vs c.args.m c.requires.1 (omega (arith, c.requires.0.limits.2, c.requires.0.places)) in
+    let same = open_here g c.args.pool.now C g.variables c.args.side vs c.args.m c.requires.1 c.requires.0 in
     (λ _. subst (In ys) (sym same) (gather_in (clause_records C g.variables c.args.side vs last) ys 0 (length C) (left - 1) (omega arith) (omega (arith, inv.0, inv.1, more)) found), λ _. refl)
 
 pub loop-clause-preserved : goal.loop-clause-preserved
@@ -84,5 +79,5 @@ returns c =
     let ys = c.args.numbers.now in
     let none = ap length c.in_default.ensures.records in
     let count : length C ≡ g.clauses = omega (arith, length-onto (records c.args.pool.now g.formula) [], c.requires.0.sound.formula.count) in
-    let same = open_here g c.args.pool.now C g.variables c.args.side vs c.args.m c.requires.1 (omega (arith, c.requires.0.limits.2, c.requires.0.places)) in
+    let same = open_here g c.args.pool.now C g.variables c.args.side vs c.args.m c.requires.1 c.requires.0 in
     (λ f. absurd (false≢true f), λ w. absurd (let r = gather_out (clause_records C g.variables c.args.side vs last) ys 0 (length C) (subst (In ys) same w) in c.loop-clause.invariant.3 r.0 (omega (arith, c.loop-clause.invariant.0, none)) (omega (arith, r.2)) r.3))

@@ -1,8 +1,8 @@
-use Rattle.std.proofs.Common.{◌≡◌, ◌-◌, ◌<◌, true, [], ◌∷◌, length, sym, refl, ap, ◌∙◌, subst, arith}
+use Rattle.std.proofs.Common.{◌≡◌, ◌-◌, ◌<◌, true, [], ◌∷◌, length, sym, refl, ap, ◌∙◌, arith}
 use Rattle.std.proofs.lemmas.List.{length-set}
 use Rattle.formula.specs.Backward.{onto, turned}
 use Rattle.strategy.proofs.ListPlaces.{length-onto}
-use Rattle.pool.specs.Records.{records, Sound}
+use Rattle.pool.specs.Records.{records}
 use Rattle.pool.specs.Chains.{records_of}
 use Rattle.layout.specs.Viewed.{values_in, clauses_of}
 use Rattle.rules.proofs.Marked.{none_above, miss_above, miss_under, hit_above, hit_under}
@@ -12,8 +12,7 @@ pub loop-clause-init : goal.loop-clause-init
 loop-clause-init c =
     let g = c.args.game.now in
     let rs = records c.args.pool.now g.formula in
-    let sound : c.new-chain.result.whole ≡ true = c.new-chain.ensures.sound.1 (subst (λ m. Sound m c.args.pool.now g.used g.formula) (sym c.count_signals.ensures.value) c.requires.1.chain) in
-    let same : records_of c.new-chain.result ≡ rs = c.new-chain.ensures.records sound in
+    let same : records_of c.chain-rest.result ≡ rs = c.chain-rest.ensures.records (c.chain-rest.ensures.sound.1 c.requires.1.chain) in
     let count : length rs ≡ g.clauses = c.requires.1.count in
     let whole = length-onto rs [] in (
       ap length same ∙ count,
@@ -31,7 +30,7 @@ loop-clause-preserved-then-not-is_hit c =
     let x = values_in g.variables c.args.level.now in
     let rest = records_of c.next.new.self in
     let k = c.in-Some.clause.now in
-    let shape : records_of c.loop-clause.chain ≡ k ∷ rest = c.in-Some.ensures.records in
+    let shape : records_of c.loop-clause.rest ≡ k ∷ rest = c.in-Some.ensures.records in
     let more = ap length shape in
     let left = c.loop-clause.left in
     let inv = c.loop-clause.invariant in
@@ -53,7 +52,7 @@ loop-clause-preserved c =
     let x = values_in g.variables c.args.level.now in
     let rest = records_of c.next.new.self in
     let k = c.in-Some.clause.now in
-    let shape : records_of c.loop-clause.chain ≡ k ∷ rest = c.in-Some.ensures.records in
+    let shape : records_of c.loop-clause.rest ≡ k ∷ rest = c.in-Some.ensures.records in
     let more = ap length shape in
     let left = c.loop-clause.left in
     let inv = c.loop-clause.invariant in

@@ -7,10 +7,10 @@ use Rattle.rules.proofs.hits.mark_hits.Given as goal
 
 abbrev pub invariant-loop-clause : goal.invariant-loop-clause
 invariant-loop-clause l =
-    (length (records_of l.chain) ≡ l.left) × (length l.marks ≡ 512) × (l.left ≤ 512)
-    × ((done : List (List ℤ)) × (clauses_of l.game l.pool ≡ onto (records_of l.chain) done))
+    (length (records_of l.rest) ≡ l.left) × (length l.marks ≡ 512) × (l.left ≤ 512)
+    × ((done : List (List ℤ)) × (clauses_of l.game l.pool ≡ onto (records_of l.rest) done))
     × ((i : ℕ) → l.left ≤ i → get_or l.marks i false ≡ (hits (clauses_of l.game l.pool) (values_in l.game.variables l.level) i || get_or l.initial.marks i false))
     × ((i : ℕ) → i < l.left → get_or l.marks i false ≡ get_or l.initial.marks i false)
 
 abbrev pub decreases-loop-clause : goal.decreases-loop-clause
-decreases-loop-clause l = length (records_of l.chain)
+decreases-loop-clause l = length (records_of l.rest)

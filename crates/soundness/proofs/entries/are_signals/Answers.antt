@@ -1,5 +1,4 @@
 use Rattle.std.proofs.Common.{◌≡◌, ◌+◌, false, get_or, drop, pos, nat_abs, sym, ap, ◌∙◌, arith, w32, SFits, rules}
-use Rattle.std.proofs.lemmas.List.{drop_all}
 use Rattle.std.proofs.lemmas.Int.{to_z-of_z}
 use Rattle.soundness.specs.Forms.{are_signals}
 use Rattle.soundness.proofs.Forming.{signals_more, signals_sign, signals_low, signals_high}
@@ -29,6 +28,3 @@ loop-x-preserved c =
     c.loop-x.invariant
     ∙ signals_more c.args.side c.loop-x.last c.args.top xs i c.loop-x-test.true (sym (simp to_z-of_z at c.if-not-is_signed.ensures)) (omega arith) (omega arith)
     ∙ ap (λ l. are_signals c.args.side l c.args.top (drop (i + 1) xs)) (sym is)
-
-pub returns : goal.returns
-returns c = sym (c.loop-x.invariant ∙ ap (are_signals c.args.side c.loop-x.last c.args.top) (drop_all c.loop-x.x-index c.args.numbers.now c.loop-x-test.false))

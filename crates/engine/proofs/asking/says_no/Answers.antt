@@ -3,12 +3,11 @@ use Rattle.engine.specs.declared.question.Answer.TheVariants.{No}
 use Rattle.engine.specs.Asking.{asked}
 use Rattle.engine.specs.Meaning.{Given, clauses}
 use Rattle.engine.proofs.Parts.{clash_more}
-use Rattle.trimmer.specs.Trim.{assuming}
-use Rattle.trimmer.proofs.trim.clashes.Goals as goal
+use Rattle.engine.proofs.asking.says_no.Goals as goal
 
 pub returns-in-Ok-No : goal.returns-in-Ok-No
 returns-in-Ok-No g c =
-    let q = assuming (asked c.args.question) c.args.trial.now in
-    let given : Given q c.args.answer.now c.ask.new.out (No c.in-Ok-No.field-0-0) =
-    subst (Given q c.args.answer.now c.ask.new.out) c.in-Ok-No.field-0-is c.in-Ok-No.ensures.1 in
+    let q = asked c.args.question in
+    let given : Given q c.args.out.now c.ask.new.out (No c.in-Ok-No.field-0-0) =
+    subst (Given q c.args.out.now c.ask.new.out) c.in-Ok-No.field-0-is c.in-Ok-No.ensures.1 in
     (λ e. clash_more (clauses q) given.2 given.3, λ e. refl)
