@@ -42,11 +42,7 @@ pub fn satisfied(game: &Game, pool: &[i32], play: &[i32]) -> [bool; 512]
     ensures { (i : ℕ) → i < game.now.clauses → slice_index_or result i false ≡ hits (clauses_of game.now pool.now) play.now i }
 {
     let mut hit = [false; 512];
-    let mut rest = chain(game, pool, game.formula);
-    // counted down by hand: the chain has the last clause first, and a chain does not know its length
-    let mut i = game.clauses;
-    while let Some(clause) = rest.next() {
-        i -= 1;
+    for (i, clause) in (0..game.clauses).rev().zip(chain(game, pool, game.formula)) {
         hit[i] = is_hit(clause, play);
     }
     hit
