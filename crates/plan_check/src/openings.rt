@@ -97,12 +97,8 @@ pub(crate) fn is_opening(game: &Game, pool: &[i32], m: usize, side: Side, number
     ensures { Decides result (In numbers.now (open_records (clauses_of game.now pool.now) game.now.variables side (variables_at game.now m) (shown_from game.now pool.now (m + 1)))) }
 {
     let last = m + 1 == game.depth;
-    // counted down by hand: the chain has the last clause first, and a chain does not know its length
-    let mut left = game.clauses;
-    let mut rest = chain(game, pool, game.formula);
-    while let Some(clause) = rest.next() {
-        left -= 1;
-        if is_clause_record(game, m, side, last, left, clause, numbers) {
+    for (i, clause) in (0..game.clauses).rev().zip(chain(game, pool, game.formula)) {
+        if is_clause_record(game, m, side, last, i, clause, numbers) {
             return true;
         }
     }

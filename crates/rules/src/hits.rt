@@ -34,14 +34,10 @@ pub(crate) fn mark_hits(game: &Game, level: &Level, pool: &[i32], marks: &mut [b
     requires { (Limits game.now) × (SoundFormula game.now pool.now) }
     ensures { (i : ℕ) → slice_index_or marks.new i false ≡ (hits (clauses_of game.now pool.now) (values_in game.now.variables level.now) i || slice_index_or marks.old i false) }
 {
-    let mut rest = chain(game, pool, game.formula);
-    // counted down by hand: the chain has the last clause first, and a chain does not know its length
-    let mut left = game.clauses;
-    while let Some(clause) = rest.next() {
-        left -= 1;
+    for (i, clause) in (0..game.clauses).rev().zip(chain(game, pool, game.formula)) {
         if !is_hit(game.variables, level, clause) {
             continue;
         }
-        marks[left] = true;
+        marks[i] = true;
     }
 }
