@@ -16,6 +16,7 @@ use layout::{Game, count_signals};
 use soundness::is_sound;
 
 // Whether all that check asks holds of a sound pool. The side of each level follows from that of the first.
+// Game and pool are no struct that keeps the soundness: a ghost field's fact has one proof at most, and a record may be that of more than one entry.
 fn accepts<E: Engine>(engine: &mut E, game: &Game, pool: &[i32], side: Side) -> bool
     requires { (Limits game.now) × ((SoundPool game.now pool.now) × (signals_of game.now ≤ E.Engine.most)) }
     ensures { Decides result (Accepts game.now pool.now side) }
