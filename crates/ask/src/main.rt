@@ -22,6 +22,7 @@ mod ask_words;
 mod draft;
 mod wrong;
 
+// The first words of an answer; `take` needs no bound on their count.
 fn print_words(rt: &impl Print, words: &[i32], count: usize) -> io::Result<()> {
     for x in words.iter().take(count) {
         print!(rt; " {x}")?;

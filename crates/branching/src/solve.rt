@@ -24,6 +24,7 @@ fn suppose(
     requires { (AllByRecursion (Literal (length values.old)) assumptions.now) × ((values.old ≡ replicate (length values.old) (pos 0)) × ((length values.old ≤ length trail.old) × (length values.old ≤ length marks.old))) }
     ensures { Supposed assumptions.now values.new trail.new marks.new result }
 {
+    // `top` counts what was put on the trail
     let mut top = 0;
     for x in assumptions {
         let value = value_of(values, *x);

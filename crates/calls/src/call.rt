@@ -36,7 +36,7 @@ pub enum Outcome {
     // how many values the move has, which lie at the front of the words
     Moved(Result<Option<usize>, MoveFault>, Vec<i32>),
     Checked(Result<bool, CheckFault>),
-    // whether the verdict was taken
+    // whether the verdict was taken: there is one refusal only, and the verdict stays at the seat then
     Retired(bool),
     Answered(Result<Answer, Refusal>, Vec<i32>),
 }

@@ -20,6 +20,7 @@ pub(crate) fn write_clauses(formula: &Formula, pool: &mut [i32], place: Place) -
     ensures { laid_as pool.new result ≡ laid (laid_as pool.old place) (qbf formula.now.parts).clauses }
 {
     let mut place = place;
+    // by number: the formula gives a clause by its number
     for i in 0..formula.clauses() {
         let Some(clause) = formula.clause(i + 1) else {
             unreachable()

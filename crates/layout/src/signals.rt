@@ -22,7 +22,7 @@ pub fn magnitude(x: i32) -> usize
     x.unsigned_abs() as usize
 }
 
-// Clauses count from 0.
+// Clauses count from 0. This and the next are two names of the theory, each a sum: one function of both would be no plainer.
 pub fn t_signal(variables: usize, clause: usize) -> i32
     requires { (variables ≤ 256) × (clause < 512) }
     ensures { result ≡ pos (t_signal variables clause) }

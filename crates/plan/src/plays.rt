@@ -17,6 +17,7 @@ pub fn is_play(game: &Game, levels: usize, play: &[i32]) -> bool
     ensures { result ≡ is_flat_play (take levels (levels_of game.now)) play.now }
 {
     let mut rest = play;
+    // by number: a level's variables are asked for by its place
     for m in 0..levels {
         let Some((values, after)) = rest.split_at_checked(count_variables(game, m)) else {
             return false;

@@ -44,6 +44,7 @@ pub(crate) fn levels_hold<E: Engine>(
     ensures { Decides result (LevelChecks (clauses_of game.now pool.now) game.now.variables side first (levels_shown game.now pool.now)) }
 {
     let mut level = first;
+    // by number: what lies at a level is asked for by its place
     for m in 0..game.depth {
         if !level_holds(engine, game, pool, m, side, level) {
             return false;

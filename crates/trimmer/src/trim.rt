@@ -38,6 +38,7 @@ fn clashes<'a, E: Engine>(
 #[derive(Drop)]
 pub struct Trimmer<E> {
     below: E,
+    // fixed memory; how many of the named words count is passed along
     named: [i32; MAX_SIGNALS],
     trial: [i32; MAX_SIGNALS],
     answer: [i32; MAX_SIGNALS],
