@@ -1,6 +1,6 @@
--- What one write into the lists of a formula changes, and what it leaves.
+-- What one write into the arrays of a formula changes, and what it leaves.
 use Rattle.std.proofs.Common.{◌≡◌, ℕ, zero, suc, ◌+◌, ◌-◌, ◌<◌, ◌≤◌, eqb, ◌≢◌, List, [], ◌∷◌, ◌++◌, length, get_or, take, drop, set, ℤ, sym, refl, ap, ◌∙◌, subst, ⊎_elim, arith}
-use Rattle.std.proofs.lemmas.List.{get_or-set_same, get_or-set_other, take-append-le, drop-append-le, take_rest, length-drop, get_or_push, get_or_append_left, length-map}
+use Rattle.std.proofs.lemmas.List.{get_or-set_same, get_or-set_other, take-set-le, drop-take, take_more_set, drop-append-le, length-take-le, length-map}
 use Rattle.std.proofs.lemmas.Bool.{cases_eq, ne_eqb}
 use Rattle.formula.specs.Lists.{each, from, below}
 use Rattle.formula.specs.Found.{binds_at, variables_of}
@@ -31,15 +31,24 @@ rises ends k h i (suc j) l =
     let e : i + j + 1 ≡ i + suc j = omega arith in
     subst (λ n. get_or ends i 0 ≤ get_or ends n 0) e (omega arith)
 
--- a part of what was there before a literal more
-pub part_before : (l : List ℤ) (x : ℤ) (a b : ℕ) → a ≤ b → b ≤ length l → take (b - a) (drop a (l ++ x ∷ [])) ≡ take (b - a) (drop a l)
-part_before l x a b h k =
-    ap (take (b - a)) (drop-append-le a l (x ∷ []) (omega arith)) ∙ take-append-le (b - a) (drop a l) (x ∷ []) (omega (arith, length-drop a l))
+-- a part that ends at or before a write is as it was
+pub part_before : (l : List ℤ) (c : ℕ) (x : ℤ) (a b : ℕ) → a ≤ b → b ≤ c → take (b - a) (drop a (set l c x)) ≡ take (b - a) (drop a l)
+part_before l c x a b h k =
+    let e : a + (b - a) ≤ c = omega arith in
+    sym (drop-take a (b - a) (set l c x)) ∙ ap (drop a) (take-set-le (a + (b - a)) l c x e) ∙ drop-take a (b - a) l
 
--- a part up to the end, and a literal more
-pub part_push : (l : List ℤ) (x : ℤ) (a : ℕ) → a ≤ length l → take (length (l ++ x ∷ []) - a) (drop a (l ++ x ∷ [])) ≡ take (length l - a) (drop a l) ++ x ∷ []
-part_push l x a h =
-    take_rest (l ++ x ∷ []) a ∙ drop-append-le a l (x ∷ []) h ∙ ap (λ r. r ++ x ∷ []) (sym (take_rest l a))
+-- a part that ends just before a write, and the written element
+pub part_push : (l : List ℤ) (c : ℕ) (x : ℤ) (a : ℕ) → a ≤ c → c < length l → take (c + 1 - a) (drop a (set l c x)) ≡ take (c - a) (drop a l) ++ x ∷ []
+part_push l c x a h k =
+    let e : c + 1 ≡ a + (c + 1 - a) = omega arith in
+    let f : a + (c - a) ≡ c = omega arith in
+    let g : a ≤ length (take c l) = omega (arith, length-take-le c l (omega arith)) in
+    sym (drop-take a (c + 1 - a) (set l c x))
+    ∙ ap (λ n. drop a (take n (set l c x))) (sym e)
+    ∙ ap (drop a) (take_more_set l c x k)
+    ∙ drop-append-le a (take c l) (x ∷ []) g
+    ∙ ap (λ n. drop a (take n l) ++ x ∷ []) (sym f)
+    ∙ ap (λ r. r ++ x ∷ []) (drop-take a (c - a) l)
 
 module _ (literals : List ℤ) (ends : List ℕ) (k count : ℕ) (rising : (i : ℕ) → i < k → get_or ends i 0 ≤ get_or ends (i + 1) 0) (top : get_or ends k 0 ≤ count) where
   pub ends_below : (i : ℕ) → i < k → get_or ends (i + 1) 0 ≤ count
@@ -50,20 +59,20 @@ module _ (literals : List ℤ) (ends : List ℕ) (k count : ℕ) (rising : (i : 
       omega arith
 
   -- a literal after the whole clauses leaves them as they are
-  pub clauses_same : count ≡ length literals → (x : ℤ) → each (clause_in (literals ++ x ∷ []) ends) (below k) ≡ each (clause_in literals ends) (below k)
-  clauses_same all x =
-      each_same_from (clause_in (literals ++ x ∷ []) ends) (clause_in literals ends) 0 k
-      (λ j h. let l : j < k = omega arith in part_before literals x (get_or ends j 0) (get_or ends (j + 1) 0) (rising j l) (omega (arith, ends_below j l)))
+  pub clauses_same : (x : ℤ) → each (clause_in (set literals count x) ends) (below k) ≡ each (clause_in literals ends) (below k)
+  clauses_same x =
+      each_same_from (clause_in (set literals count x) ends) (clause_in literals ends) 0 k
+      (λ j h. let l : j < k = omega arith in part_before literals count x (get_or ends j 0) (get_or ends (j + 1) 0) (rising j l) (ends_below j l))
 
   -- a clause more is the literals after the others
-  pub clauses_push : length ends ≡ k + 1 → each (clause_in literals (ends ++ count ∷ [])) (below (k + 1)) ≡ each (clause_in literals ends) (below k) ++ take (count - get_or ends k 0) (drop (get_or ends k 0) literals) ∷ []
-  clauses_push long =
-      let new : get_or (ends ++ count ∷ []) (k + 1) 0 ≡ count = get_or_push ends count 0 (k + 1) long in
-      let old : (i : ℕ) → i ≤ k → get_or (ends ++ count ∷ []) i 0 ≡ get_or ends i 0 = λ i h. get_or_append_left ends (count ∷ []) 0 i (omega arith) in
-      each-below-push (clause_in literals (ends ++ count ∷ [])) (clause_in literals ends) k
-      (λ j h. ap (λ b. take (b - get_or (ends ++ count ∷ []) j 0) (drop (get_or (ends ++ count ∷ []) j 0) literals)) (old (j + 1) (omega arith)) ∙ ap (λ a. take (get_or ends (j + 1) 0 - a) (drop a literals)) (old j (omega arith)))
+  pub clauses_push : k + 1 < length ends → each (clause_in literals (set ends (k + 1) count)) (below (k + 1)) ≡ each (clause_in literals ends) (below k) ++ take (count - get_or ends k 0) (drop (get_or ends k 0) literals) ∷ []
+  clauses_push room =
+      let new : get_or (set ends (k + 1) count) (k + 1) 0 ≡ count = get_or-set_same ends (k + 1) count 0 room in
+      let old : (i : ℕ) → i ≤ k → get_or (set ends (k + 1) count) i 0 ≡ get_or ends i 0 = λ i h. get_or-set_other ends (k + 1) i count 0 (λ e. omega arith) in
+      each-below-push (clause_in literals (set ends (k + 1) count)) (clause_in literals ends) k
+      (λ j h. ap (λ b. take (b - get_or (set ends (k + 1) count) j 0) (drop (get_or (set ends (k + 1) count) j 0) literals)) (old (j + 1) (omega arith)) ∙ ap (λ a. take (get_or ends (j + 1) 0 - a) (drop a literals)) (old j (omega arith)))
       ∙ ap (λ c. each (clause_in literals ends) (below k) ++ c ∷ [])
-      (ap (λ b. take (b - get_or (ends ++ count ∷ []) k 0) (drop (get_or (ends ++ count ∷ []) k 0) literals)) new ∙ ap (λ a. take (count - a) (drop a literals)) (old k (omega arith)))
+      (ap (λ b. take (b - get_or (set ends (k + 1) count) k 0) (drop (get_or (set ends (k + 1) count) k 0) literals)) new ∙ ap (λ a. take (count - a) (drop a literals)) (old k (omega arith)))
 
 pub count_clauses : (f : ℕ → List ℤ) (k : ℕ) → length (each f (below k)) ≡ k
 count_clauses f k = length-map (below k) f ∙ length_from 0 k

@@ -10,7 +10,7 @@ use Rattle.formula.specs.Lists.{All, Any, each, keep, from, below, elem}
 use Rattle.formula.specs.Game.{Clauses, other}
 use Rattle.formula.specs.Sides.{side_at, same_side}
 use Rattle.formula.specs.Found.{binds_at, variables_of}
-use Rattle.formula.specs.Built.{clause_in, clauses_in}
+use Rattle.formula.specs.Built.{clause_in}
 use Rattle.formula.specs.Model.{qbf}
 use Rattle.formula.specs.Proper.{literals_of, Ascending, LastOurs, Bound, Proper}
 use Rattle.formula.proofs.Maps.{each-below-push}
@@ -83,34 +83,34 @@ module _ (f : Formula) where
   abbrev level_of_lem : ℕ → List ℕ
   level_of_lem = variables_of p.variables p.bound
 
-  literal_bound : (j : ℕ) → j < length p.literals.items → Bound (each level_of_lem (from 1 p.levels)) (nat_abs (get_or p.literals.items j (pos 0)))
+  literal_bound : (j : ℕ) → j < p.count → Bound (each level_of_lem (from 1 p.levels)) (nat_abs (get_or p.literals j (pos 0)))
   literal_bound j h =
-      let v = nat_abs (get_or p.literals.items j (pos 0)) in
+      let v = nat_abs (get_or p.literals j (pos 0)) in
       let m = get_or p.bound v 0 in
       let some : 0 < m = f.closed j h in
       let d = f.declared v some in
       let there : elem v (level_of_lem m) ≡ true = elem_kept (binds_at p.bound m) 1 p.variables v (omega (arith, d.0)) (omega (arith, d.1)) ∙ eq-eqb m m refl in
       any-from (λ vs. T (elem v vs)) level_of_lem 1 p.levels m (omega arith) (omega (arith, f.leveled v)) (subst T (sym there) tt)
 
-  clause_bound : (i : ℕ) → i < clauses_in p → All (λ l. Bound (each level_of_lem (from 1 p.levels)) (nat_abs l)) (clause_in p.literals.items p.ends.items i)
+  clause_bound : (i : ℕ) → i < p.clauses → All (λ l. Bound (each level_of_lem (from 1 p.levels)) (nat_abs l)) (clause_in p.literals p.ends i)
   clause_bound i h =
-      let a = get_or p.ends.items i 0 in
-      let b = get_or p.ends.items (i + 1) 0 in
-      let top : b ≤ length p.literals.items = ends_below p.literals.items p.ends.items (clauses_in p) (length p.literals.items) f.ordered f.ends.1 i h in
-      let long : length (take (b - a) (drop a p.literals.items)) ≡ min (b - a) (length (drop a p.literals.items)) = length-take (b - a) (drop a p.literals.items) in
-      all_places (λ l. Bound (each level_of_lem (from 1 p.levels)) (nat_abs l)) (pos 0) (clause_in p.literals.items p.ends.items i)
+      let a = get_or p.ends i 0 in
+      let b = get_or p.ends (i + 1) 0 in
+      let top : b ≤ p.count = ends_below p.literals p.ends p.clauses p.count f.ordered f.ends.1 i h in
+      let long : length (take (b - a) (drop a p.literals)) ≡ min (b - a) (length (drop a p.literals)) = length-take (b - a) (drop a p.literals) in
+      all_places (λ l. Bound (each level_of_lem (from 1 p.levels)) (nat_abs l)) (pos 0) (clause_in p.literals p.ends i)
       (λ j l. let inside : j < b - a = omega arith in
-      let same : get_or (take (b - a) (drop a p.literals.items)) j (pos 0) ≡ get_or p.literals.items (a + j) (pos 0) = get_or-take (b - a) (drop a p.literals.items) j (pos 0) inside ∙ get_or-drop a p.literals.items j (pos 0) in
+      let same : get_or (take (b - a) (drop a p.literals)) j (pos 0) ≡ get_or p.literals (a + j) (pos 0) = get_or-take (b - a) (drop a p.literals) j (pos 0) inside ∙ get_or-drop a p.literals j (pos 0) in
       subst (λ x. Bound (each level_of_lem (from 1 p.levels)) (nat_abs x)) (sym same) (literal_bound (a + j) (omega arith)))
 
   pub proper : Proper (qbf f.parts)
   proper = record {
     few_variables = f.limits.0;
     few_levels = omega (arith, f.limits.1, count_levels level_of_lem p.levels);
-    few_clauses = omega (arith, f.limits.2, count_clauses (clause_in p.literals.items p.ends.items) (clauses_in p));
-    few_literals = omega (arith, f.limits.3, f.ends.1, literals_most p.literals.items p.ends.items (clauses_in p) f.ordered);
+    few_clauses = omega (arith, f.limits.2, count_clauses (clause_in p.literals p.ends) p.clauses);
+    few_literals = omega (arith, f.limits.3, f.ends.1, literals_most p.literals p.ends p.clauses f.ordered);
     ascending = all_from (Ascending 0 p.variables) level_of_lem 1 p.levels (λ m l h. ascends (binds_at p.bound m) 0 p.variables 1 p.variables (omega arith) (omega arith));
     none_empty = all_from (λ vs. 0 < length vs) level_of_lem 1 p.levels (λ m l h. ⊎_elim (λ k. f.filled m (omega arith) k) (λ k. let e : p.levels ≡ m = omega arith in subst (λ j. 0 < length (level_of_lem j)) e (f.last_filled (omega arith))) (cases_lt m p.levels));
     last_ours = last_is_ours p.first (each level_of_lem (from 1 p.levels)) (λ h. ap (side_at p.first) (count_levels level_of_lem p.levels) ∙ same_ours (side_at p.first p.levels) (f.last_ours (omega (arith, count_levels level_of_lem p.levels))));
-    all_bound = all_from (λ c. All (λ l. Bound (each level_of_lem (from 1 p.levels)) (nat_abs l)) c) (clause_in p.literals.items p.ends.items) 0 (clauses_in p) (λ i l h. clause_bound i (omega arith));
+    all_bound = all_from (λ c. All (λ l. Bound (each level_of_lem (from 1 p.levels)) (nat_abs l)) c) (clause_in p.literals p.ends) 0 p.clauses (λ i l h. clause_bound i (omega arith));
   }

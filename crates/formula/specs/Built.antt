@@ -33,19 +33,15 @@ pub record Built : Type 0 where
 abbrev pub clause_in : List ℤ → List ℕ → ℕ → List ℤ
 clause_in literals ends i = take (slice_index ends (i + 1) - slice_index ends i) (drop (slice_index ends i) literals)
 
--- how many clauses are whole
-abbrev pub clauses_in : Parts → ℕ
-clauses_in p = length p.ends.items - 1
-
 abbrev pub built : Parts → Built
 built p = record {
   variables = p.variables;
   first = p.first;
   levels = p.levels;
   bound = p.bound;
-  clauses = each (clause_in p.literals.items p.ends.items) (below (clauses_in p));
-  pending = take (length p.literals.items - slice_index p.ends.items (clauses_in p)) (drop (slice_index p.ends.items (clauses_in p)) p.literals.items);
-  literals = length p.literals.items;
+  clauses = each (clause_in p.literals p.ends) (below p.clauses);
+  pending = take (p.count - slice_index p.ends p.clauses) (drop (slice_index p.ends p.clauses) p.literals);
+  literals = p.count;
 }
 
 -- nothing but n declared variables

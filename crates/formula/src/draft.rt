@@ -5,10 +5,9 @@ ghost use Rattle.formula.specs.Laid.{Limits, Ordered, Ends, Declared, Leveled, A
 
 use crate::faults::{BindFault, ClauseFault, LevelFault, LiteralFault};
 use crate::formula::Formula;
-use crate::limits::{MAX_CLAUSES, MAX_LEVELS, MAX_LITERALS, MAX_VARIABLES};
+use crate::limits::{MAX_CLAUSES, MAX_ENDS, MAX_LEVELS, MAX_LITERALS, MAX_VARIABLES};
 use crate::parts::Parts;
 use crate::side::Side;
-use arrayvec::ArrayVec;
 
 #[derive(Drop)]
 pub struct Draft {
@@ -30,16 +29,16 @@ impl Draft {
         if variables > MAX_VARIABLES {
             return None;
         }
-        let mut ends = ArrayVec::new();
-        ends.push(0);
         Some(Draft {
             parts: Parts {
                 variables,
                 first: Side::Ours,
                 levels: 0,
                 bound: [0; MAX_VARIABLES + 1],
-                ends,
-                literals: ArrayVec::new(),
+                clauses: 0,
+                ends: [0; MAX_ENDS],
+                count: 0,
+                literals: [0; MAX_LITERALS],
             },
         })
     }
@@ -115,10 +114,11 @@ impl Draft {
         if self.parts.bound[variable] == 0 {
             return Err(LiteralFault::Unbound);
         }
-        if self.parts.literals.len() >= MAX_LITERALS {
+        if self.parts.count >= MAX_LITERALS {
             return Err(LiteralFault::TooMany);
         }
-        self.parts.literals.push(literal);
+        self.parts.literals[self.parts.count] = literal;
+        self.parts.count += 1;
         Ok(())
     }
 
@@ -127,10 +127,12 @@ impl Draft {
         ensures ended { result ≡ outcome (ending (built self.old.parts)) }
         ensures after { built self.new.parts ≡ leaves (built self.old.parts) (ending (built self.old.parts)) }
     {
-        if self.parts.clauses() >= MAX_CLAUSES {
+        let clauses = self.parts.clauses();
+        if clauses >= MAX_CLAUSES {
             return Err(ClauseFault::TooMany);
         }
-        self.parts.ends.push(self.parts.literals.len());
+        self.parts.ends[clauses + 1] = self.parts.count;
+        self.parts.clauses = clauses + 1;
         Ok(())
     }
 
@@ -147,7 +149,7 @@ impl Draft {
         ensures { MatchOption result (may_finish (built self.parts) ≡ false) (λ f. (may_finish (built self.parts) ≡ true) × (f.parts ≡ self.parts)) }
     {
         let whole = self.parts.ends[self.parts.clauses()];
-        if whole < self.parts.literals.len() || !self.ends_well() {
+        if whole < self.parts.count || !self.ends_well() {
             return None;
         }
         Some(Formula { parts: self.parts })

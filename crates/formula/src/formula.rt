@@ -89,10 +89,9 @@ impl Formula {
         if before >= self.parts.clauses() {
             return None;
         }
-        let ends = self.parts.ends.as_slice();
-        let from = ends[before];
-        let to = ends[number];
-        Some(&self.parts.literals.as_slice()[from..to])
+        let from = self.parts.ends[before];
+        let to = self.parts.ends[number];
+        Some(&self.parts.literals[from..to])
     }
 
     // How many variables are bound, over all levels.

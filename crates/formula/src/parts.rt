@@ -1,15 +1,15 @@
 // What a formula consists of, in fixed arrays, and how it is looked up there.
-ghost use Rattle.std.specs.Prelude.{◌≡◌, ◌+◌, ◌-◌, ◌<◌, ◌≤◌, length};
+ghost use Rattle.std.specs.Prelude.{◌≡◌, ◌+◌, ◌-◌, ◌≤◌, length};
 ghost use Rattle.formula.specs.Lists.{keep, from};
 ghost use Rattle.formula.specs.Sides.{side_at};
 ghost use Rattle.formula.specs.Found.{first_of, binds_at, variables_of};
-ghost use Rattle.formula.specs.Built.{built, clauses_in};
+ghost use Rattle.formula.specs.Built.{built};
 
 use crate::limits::{MAX_ENDS, MAX_LITERALS, MAX_VARIABLES};
 use crate::side::Side;
-use arrayvec::ArrayVec;
 
-#[derive(Drop)]
+// No ArrayVec for the ends and the literals: it cannot be copied, and this type can.
+#[derive(Clone, Copy)]
 pub struct Parts {
     // declared variables
     pub(crate) variables: usize,
@@ -19,20 +19,22 @@ pub struct Parts {
     pub(crate) levels: usize,
     // the level that binds each variable, or 0 and no Option: so specs/Built, on which contracts stand, has it; place 0 is not used
     pub(crate) bound: [usize; MAX_VARIABLES + 1],
+    // how many clauses are whole
+    pub(crate) clauses: usize,
     // 0, and where each whole clause ends: clause i lies in `literals` from ends[i - 1] to ends[i]
-    pub(crate) ends: ArrayVec<usize, MAX_ENDS>,
-    // the literals of the whole clauses, and of one that is not whole yet
-    pub(crate) literals: ArrayVec<i32, MAX_LITERALS>,
+    pub(crate) ends: [usize; MAX_ENDS],
+    // how many literals there are, those of a clause that is not whole yet included
+    pub(crate) count: usize,
+    pub(crate) literals: [i32; MAX_LITERALS],
 }
 
 impl Parts {
     // How many clauses are whole.
     pub(crate) fn clauses(&self) -> usize
-        requires { 0 < length self.now.ends.items }
-        ensures value { result ≡ clauses_in self.now }
+        ensures value { result ≡ self.now.clauses }
         ensures count { result ≡ length (built self.now).clauses }
     {
-        self.ends.len() - 1
+        self.clauses
     }
 
     // The side of a level, from that of level 1.

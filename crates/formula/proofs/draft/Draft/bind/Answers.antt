@@ -18,6 +18,6 @@ invariant_of-self c =
       ends = old.ends;
       declared = written (λ u x. 0 < x → (0 < u) × (u ≤ old.parts.variables)) b v m 0 inside (λ _. (some, top)) (λ u _. old.declared u);
       leveled = written (λ u x. x ≤ m) b v m 0 inside (omega arith) (λ u _. old.leveled u);
-      closed = λ j h. written (λ u x. 0 < get_or b u 0 → 0 < x) b v m 0 inside (λ _. room) (λ u _ k. k) (nat_abs (get_or old.parts.literals.items j (pos 0))) (old.closed j h);
+      closed = λ j h. written (λ u x. 0 < get_or b u 0 → 0 < x) b v m 0 inside (λ _. room) (λ u _ k. k) (nat_abs (get_or old.parts.literals j (pos 0))) (old.closed j h);
       filled = λ j h k. subst (λ l. 0 < length l) (sym (lower_level_same old.parts.variables b v m j inside free h k)) (old.filled j h k);
     }
