@@ -3,7 +3,7 @@ ghost use Rattle.std.specs.Prelude.{◌≡◌, ◌+◌, ◌-◌, ◌^◌, min};
 ghost use Rattle.engine.specs.Asking.{asked};
 ghost use Rattle.engine.specs.Meaning.{Answered};
 
-use crate::admission::{admit_size, largest_above};
+use crate::admission::largest_above;
 use crate::asking::Engine;
 use crate::question::{Answer, Question, Refusal};
 
@@ -43,7 +43,10 @@ impl<E: Engine> Engine for Tally<E> {
         ensures counted { self.new.questions ≡ min (2 ^ 64 - 1) (self.old.questions + 1) }
     {
         self.questions = self.questions.saturating_add(1);
-        admit_size(Self::largest(), question, out.len())?;
+        // No admit_size: a question with too short a slice is put to the engine below too, which refuses it.
+        if question.signals > Self::largest() {
+            return Err(Refusal::TooManySignals);
+        }
         self.below.ask(question, out)
     }
 }
