@@ -1,7 +1,6 @@
 pub mod Begun
 pub mod Choosing
 pub mod Counted
-pub mod Flags
 pub mod Formulas
 pub mod Grown
 pub mod Named

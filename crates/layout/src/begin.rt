@@ -9,6 +9,7 @@ ghost use Rattle.layout.specs.Opened.{flags_of, new_level, new_levels, put_from}
 use crate::chains::Block;
 use crate::game::Level;
 use crate::sizes::first_side;
+use arrayvec::ArrayVec;
 use formula::Formula;
 use pool::Place;
 
@@ -51,6 +52,7 @@ pub(crate) fn write_levels(
     let count = formula.levels();
     let mut side = first_side(formula);
     let mut place = place;
+    let mut buffer = ArrayVec::new();
     // by number: the formula gives a level by its number
     for m in 0..count {
         let begun = Place {
@@ -63,7 +65,7 @@ pub(crate) fn write_levels(
             level: m + 1,
             last: m + 1 == count,
         };
-        place = block.write(pool, begun);
+        place = block.write(&mut buffer, pool, begun);
         levels[m] = new_level(&block, place.head);
         side = side.other();
     }

@@ -57,37 +57,50 @@ pub(crate) struct Block<'a> {
 }
 
 impl Block<'_> {
-    // The literals that a clause has at the level.
-    pub(crate) fn literals_on(&self, clause: usize) -> ArrayVec<i32, 4098>
+    // How many literals a clause has at the level.
+    pub(crate) fn count_on(&self, clause: usize) -> usize
         requires { clause < length (qbf self.now.formula.now.parts).clauses }
-        ensures literals { result.items ≡ literals_on (qbf self.now.formula.now.parts).clauses (level_at (qbf self.now.formula.now.parts) self.now.level) clause }
-        ensures few { array_vec_len result ≤ 4096 }
+        ensures count { result ≡ length (literals_on (qbf self.now.formula.now.parts).clauses (level_at (qbf self.now.formula.now.parts) self.now.level) clause) }
+        ensures few { result ≤ 4096 }
     {
         let Some(literals) = self.formula.clause(clause + 1) else {
             unreachable()
         };
-        let mut found = ArrayVec::new();
-        for l in literals {
-            if is_at(self.formula, self.level, *l) {
-                found.push(*l);
-            }
-        }
-        found
+        literals
+            .iter()
+            .filter(|l| is_at(self.formula, self.level, **l))
+            .count()
     }
 
-    // The record of a clause at our level.
-    pub(crate) fn our_record(&self, clause: usize) -> ArrayVec<i32, 4098>
+    // Puts the literals that a clause has at the level into the buffer, in place of what it has.
+    fn put_literals(&self, clause: usize, buffer: &mut ArrayVec<i32, 4098>)
         requires { clause < length (qbf self.now.formula.now.parts).clauses }
-        ensures numbers { result.items ≡ our_record (qbf self.now.formula.now.parts).clauses (qbf self.now.formula.now.parts).variables (level_at (qbf self.now.formula.now.parts) self.now.level) self.now.last clause }
-        ensures few { array_vec_len result ≤ 4098 }
+        ensures literals { buffer.new.items ≡ literals_on (qbf self.now.formula.now.parts).clauses (level_at (qbf self.now.formula.now.parts) self.now.level) clause }
+        ensures few { array_vec_len buffer.new ≤ 4096 }
     {
-        let mut record = self.literals_on(clause);
-        let variables = self.formula.variables();
-        record.push(t_signal(variables, clause));
-        if !self.last {
-            record.push(b_signal(variables, self.formula.clauses(), clause));
+        let Some(literals) = self.formula.clause(clause + 1) else {
+            unreachable()
+        };
+        buffer.clear();
+        for l in literals {
+            if is_at(self.formula, self.level, *l) {
+                buffer.push(*l);
+            }
         }
-        record
+    }
+
+    // Puts the record of a clause at our level into the buffer, in place of what it has.
+    fn put_record(&self, clause: usize, buffer: &mut ArrayVec<i32, 4098>)
+        requires { clause < length (qbf self.now.formula.now.parts).clauses }
+        ensures numbers { buffer.new.items ≡ our_record (qbf self.now.formula.now.parts).clauses (qbf self.now.formula.now.parts).variables (level_at (qbf self.now.formula.now.parts) self.now.level) self.now.last clause }
+        ensures few { array_vec_len buffer.new ≤ 4098 }
+    {
+        self.put_literals(clause, buffer);
+        let variables = self.formula.variables();
+        buffer.push(t_signal(variables, clause));
+        if !self.last {
+            buffer.push(b_signal(variables, self.formula.clauses(), clause));
+        }
     }
 
     // Writes the records of a clause at the device's level.
@@ -95,34 +108,53 @@ impl Block<'_> {
         requires { (clause < length (qbf self.now.formula.now.parts).clauses) × (Enough (length pool.old) (laid_as pool.old place) (device_records (qbf self.now.formula.now.parts).clauses (qbf self.now.formula.now.parts).variables (level_at (qbf self.now.formula.now.parts) self.now.level) clause)) }
         ensures { laid_as pool.new result ≡ laid (laid_as pool.old place) (device_records (qbf self.now.formula.now.parts).clauses (qbf self.now.formula.now.parts).variables (level_at (qbf self.now.formula.now.parts) self.now.level) clause) }
     {
+        let Some(literals) = self.formula.clause(clause + 1) else {
+            unreachable()
+        };
         let left = b_signal(self.formula.variables(), self.formula.clauses(), clause);
-        let literals = self.literals_on(clause);
         let mut place = place;
-        for l in literals.as_slice() {
+        for l in literals {
+            if !is_at(self.formula, self.level, *l) {
+                continue;
+            }
             place = lay(pool, place, &device_record(*l, left));
         }
         place
     }
 
     // Writes the records of a clause at the level.
-    fn write_clause(&self, clause: usize, pool: &mut [i32], place: Place) -> Place
+    fn write_clause(
+        &self,
+        clause: usize,
+        buffer: &mut ArrayVec<i32, 4098>,
+        pool: &mut [i32],
+        place: Place,
+    ) -> Place
         requires { (clause < length (qbf self.now.formula.now.parts).clauses) × (Enough (length pool.old) (laid_as pool.old place) (clause_records (qbf self.now.formula.now.parts).clauses (qbf self.now.formula.now.parts).variables self.now.side (level_at (qbf self.now.formula.now.parts) self.now.level) self.now.last clause)) }
         ensures { laid_as pool.new result ≡ laid (laid_as pool.old place) (clause_records (qbf self.now.formula.now.parts).clauses (qbf self.now.formula.now.parts).variables self.now.side (level_at (qbf self.now.formula.now.parts) self.now.level) self.now.last clause) }
     {
         match self.side {
-            Side::Ours => lay(pool, place, self.our_record(clause).as_slice()),
+            Side::Ours => {
+                self.put_record(clause, buffer);
+                lay(pool, place, buffer.as_slice())
+            }
             Side::Device => self.write_device(clause, pool, place),
         }
     }
 
-    // Writes the clause chain that the level begins with.
-    pub(crate) fn write(&self, pool: &mut [i32], place: Place) -> Place
+    // Writes the clause chain that the level begins with. The buffer is for one record after another.
+    pub(crate) fn write(
+        &self,
+        buffer: &mut ArrayVec<i32, 4098>,
+        pool: &mut [i32],
+        place: Place,
+    ) -> Place
         requires { Enough (length pool.old) (laid_as pool.old place) (level_records (qbf self.now.formula.now.parts).clauses (qbf self.now.formula.now.parts).variables self.now.side (level_at (qbf self.now.formula.now.parts) self.now.level) self.now.last) }
         ensures { laid_as pool.new result ≡ laid (laid_as pool.old place) (level_records (qbf self.now.formula.now.parts).clauses (qbf self.now.formula.now.parts).variables self.now.side (level_at (qbf self.now.formula.now.parts) self.now.level) self.now.last) }
     {
         let mut place = place;
         for clause in 0..self.formula.clauses() {
-            place = self.write_clause(clause, pool, place);
+            place = self.write_clause(clause, buffer, pool, place);
         }
         place
     }

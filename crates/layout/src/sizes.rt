@@ -15,9 +15,11 @@ impl Block<'_> {
         ensures words { result ≡ words_for (clause_records (qbf self.now.formula.now.parts).clauses (qbf self.now.formula.now.parts).variables self.now.side (level_at (qbf self.now.formula.now.parts) self.now.level) self.now.last clause) }
         ensures few { result ≤ 20000 }
     {
+        let count = self.count_on(clause);
         match self.side {
-            Side::Ours => head_words() + self.our_record(clause).len(),
-            Side::Device => (head_words() + 2) * self.literals_on(clause).len(),
+            Side::Ours if self.last => head_words() + count + 1,
+            Side::Ours => head_words() + count + 2,
+            Side::Device => (head_words() + 2) * count,
         }
     }
 

@@ -1,4 +1,4 @@
-use Rattle.std.proofs.Common.{◌≡◌, ◌+◌, ◌*◌, length, sym, ap, ◌∙◌}
+use Rattle.std.proofs.Common.{◌≡◌, ◌+◌, ◌*◌, sym, ap, ◌∙◌}
 use Rattle.formula.specs.Model.{qbf, level_at}
 use Rattle.strategy.specs.Records.{literals_on}
 use Rattle.layout.specs.Laying.{words_for}
@@ -10,8 +10,7 @@ pub returns-in-Device-clause-words : goal.returns-in-Device-clause-words
 returns-in-Device-clause-words c =
     let q = qbf c.args.self.now.formula.now.parts in
     let ls = literals_on q.clauses (level_at q c.args.self.now.level) c.args.clause in
-    let count = c.len-in-Device.result in
+    let count = c.count_on-count.result in
     let four : (c.head_words-in-Device.result + 2) * count ≡ 4 * count = ap (λ h. (h + 2) * count) c.head_words-in-Device.ensures in
-    let long : count ≡ length ls = c.len-in-Device.ensures.value ∙ ap length c.literals_on.ensures.literals in
-    four ∙ ap (λ m. 4 * m) long ∙ sym (words_of_pairs q.clauses q.variables c.args.clause ls)
+    four ∙ ap (λ m. 4 * m) c.count_on-count.ensures.count ∙ sym (words_of_pairs q.clauses q.variables c.args.clause ls)
     ∙ ap (λ σ. words_for (clause_records q.clauses q.variables σ (level_at q c.args.self.now.level) c.args.self.now.last c.args.clause)) (sym c.in-Device.is)

@@ -5,7 +5,7 @@ use Rattle.formula.specs.Model.{qbf, level_at}
 use Rattle.formula.proofs.ProperFormula.{proper}
 use Rattle.layout.proofs.Formulas.{few_in_clause}
 use Rattle.layout.proofs.Room.{clause_next}
-use Rattle.layout.proofs.chains.Block.literals_on.Goals as goal
+use Rattle.layout.proofs.chains.Block.put_literals.Goals as goal
 
 pub overflow_add-clause : goal.overflow_add-clause
 overflow_add-clause c = let few = (proper c.args.self.now.formula.now).few_clauses in omega arith
