@@ -11,9 +11,9 @@ ghost use Rattle.soundness.specs.Soundness.{EntryForm, SoundEntries};
 ghost use Rattle.plan.specs.Fitting.{set_of, wants};
 ghost use Rattle.plan.specs.Naming.{Behind};
 
-use crate::parts::split_entry;
+use crate::parts::split_at;
 use formula::Side;
-use layout::{Game, magnitude};
+use layout::{Game, count_variables, magnitude};
 use soundness::chain;
 
 // What a side asks of a clause in an entry's set: ours that it is satisfied, the device that it is not.
@@ -45,17 +45,32 @@ fn are_wanted(side: Side, base: usize, signals: &[i32], satisfied: &[bool; 512])
         .all(|clause| is_wanted(side, satisfied[clause]))
 }
 
-// Whether an entry of the level m, taken as one of the side, fits.
-pub fn fits(game: &Game, m: usize, side: Side, entry: &[i32], satisfied: &[bool; 512]) -> bool
-    requires { (Limits game.now) × ((m < 32) × (EntryForm game.now.variables game.now.clauses (level_of game.now m).side (variables_at game.now m) entry.now)) }
+// Whether an entry of the level m, which has so many variables and is taken as one of the side, fits.
+fn fits_counted(
+    game: &Game,
+    m: usize,
+    count: usize,
+    side: Side,
+    entry: &[i32],
+    satisfied: &[bool; 512],
+) -> bool
+    requires { (Limits game.now) × ((m < 32) × ((count ≡ length (variables_at game.now m)) × (EntryForm game.now.variables game.now.clauses (level_of game.now m).side (variables_at game.now m) entry.now))) }
     ensures { result ≡ fits_when side (λ i. get_or satisfied.now i false) (entry_of game.now.variables entry.now) }
 {
     are_wanted(
         side,
         game.variables,
-        split_entry(game, m, entry).signals,
+        split_at(game, m, count, entry).signals,
         satisfied,
     )
+}
+
+// Whether an entry of the level m, taken as one of the side, fits.
+pub fn fits(game: &Game, m: usize, side: Side, entry: &[i32], satisfied: &[bool; 512]) -> bool
+    requires { (Limits game.now) × ((m < 32) × (EntryForm game.now.variables game.now.clauses (level_of game.now m).side (variables_at game.now m) entry.now)) }
+    ensures { result ≡ fits_when side (λ i. get_or satisfied.now i false) (entry_of game.now.variables entry.now) }
+{
+    fits_counted(game, m, count_variables(game, m), side, entry, satisfied)
 }
 
 // The values of the newest entry of the level m that fits; the newest heads the chain.
@@ -69,8 +84,10 @@ pub fn newest_fitting<'a>(
     ensures found { MatchOption result (values_in (find (fits_when (level_of game.now m).side (λ i. get_or satisfied.now i false)) (entries_in game.now pool.now m)) ≡ none) (λ x. values_in (find (fits_when (level_of game.now m).side (λ i. get_or satisfied.now i false)) (entries_in game.now pool.now m)) ≡ some x.now) }
     ensures count { IfSome result (λ x. length x.now ≡ length (variables_at game.now m)) }
 {
+    // The variables of the level are counted once, and not for each entry.
+    let count = count_variables(game, m);
     let side = game.levels[m].side;
     let mut entries = chain(game, pool, game.levels[m].entries);
-    let entry = entries.find(|entry| fits(game, m, side, entry, satisfied))?;
-    Some(split_entry(game, m, entry).values)
+    let entry = entries.find(|entry| fits_counted(game, m, count, side, entry, satisfied))?;
+    Some(split_at(game, m, count, entry).values)
 }

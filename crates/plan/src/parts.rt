@@ -15,16 +15,25 @@ pub struct Parts<'a> {
     pub values: &'a [i32],
 }
 
-// The parts of an entry of the level m, which has a value for each of its variables.
+// The parts of an entry of the level m, which has a value for each of its so many variables.
+pub(crate) fn split_at<'a>(game: &Game, m: usize, count: usize, entry: &'a [i32]) -> Parts<'a>
+    requires { (Limits game.now) × ((m < 32) × ((count ≡ length (variables_at game.now m)) × (EntryForm game.now.variables game.now.clauses (level_of game.now m).side (variables_at game.now m) entry.now))) }
+    ensures is { entry_of game.now.variables entry.now ≡ record { set = set_of game.now.variables result.signals.now; values = result.values.now } }
+    ensures count { length result.values.now ≡ length (variables_at game.now m) }
+    ensures named { Behind game.now.variables result.signals.now }
+{
+    let Some((signals, values)) = entry.split_at_checked(entry.len() - count) else {
+        unreachable()
+    };
+    Parts { signals, values }
+}
+
+// The parts of an entry of the level m.
 pub fn split_entry<'a>(game: &Game, m: usize, entry: &'a [i32]) -> Parts<'a>
     requires { (Limits game.now) × ((m < 32) × (EntryForm game.now.variables game.now.clauses (level_of game.now m).side (variables_at game.now m) entry.now)) }
     ensures is { entry_of game.now.variables entry.now ≡ record { set = set_of game.now.variables result.signals.now; values = result.values.now } }
     ensures count { length result.values.now ≡ length (variables_at game.now m) }
     ensures named { Behind game.now.variables result.signals.now }
 {
-    let Some((signals, values)) = entry.split_at_checked(entry.len() - count_variables(game, m))
-    else {
-        unreachable()
-    };
-    Parts { signals, values }
+    split_at(game, m, count_variables(game, m), entry)
 }

@@ -24,10 +24,10 @@ find-requires-clause-callable c =
     (λ x q k. search rules)
     (λ x k h e.
     let form : P x.now = subst P (sym e) (All-get_or P rs k x.now h (All-from_recursion P rs c.requires.1.1.forms)) in
-    λ y is _ _ _ _ _ _ _ _. (c.requires.0, (c.requires.1.0, subst (λ z. P z.now) (sym is) form)))
+    λ y is _ _ _ _ _ _ _ _ _. (c.requires.0, (c.requires.1.0, (c.count_variables-count.ensures.count, subst (λ z. P z.now) (sym is) form))))
 
-pub split_entry-requires : goal.split_entry-requires
-split_entry-requires c =
+pub split_at-requires : goal.split_at-requires
+split_at-requires c =
     let g = c.args.game.now in
     let p : Entry → Bool = fits_when (level_of g c.args.m).side (λ i. get_or c.args.satisfied.now i false) in
     let f : List ℤ → Entry = entry_of g.variables in
@@ -36,7 +36,7 @@ split_entry-requires c =
     let found = found_by p f rs c.find.new.self _ c.find.result c.find.ensures.ran (YieldsList-from_first (λ x. x.now) (λ c'. records_of c') rs same)
     (λ x b q k. let t : b ≡ p (f k.shown.now.now) = search rules in (search rules, subst (λ z. b ≡ p (f z.now)) k.shows t)) in
     let P : List ℤ → Type 0 = EntryForm g.variables g.clauses (level_of g c.args.m).side (variables_at g c.args.m) in
-    (c.requires.0, (c.requires.1.0, found_in p f P rs c.find.result c.in_ok-entry.entry found c.in_ok-entry.was c.requires.1.1.forms))
+    (c.requires.0, (c.requires.1.0, (c.count_variables-count.ensures.count, found_in p f P rs c.find.result c.in_ok-entry.entry found c.in_ok-entry.was c.requires.1.1.forms)))
 
 pub returns-in_err-entry-clause-found : goal.returns-in_err-entry-clause-found
 returns-in_err-entry-clause-found c =
@@ -59,6 +59,6 @@ returns c =
     let found = found_by p f rs c.find.new.self _ c.find.result c.find.ensures.ran (YieldsList-from_first (λ x. x.now) (λ c'. records_of c') rs same)
     (λ x b q k. let t : b ≡ p (f k.shown.now.now) = search rules in (search rules, subst (λ z. b ≡ p (f z.now)) k.shows t)) in
     record {
-      found = ap values_in (found_some p f rs c.find.result c.in_ok-entry.entry found c.in_ok-entry.was) ∙ ap (λ (x : Entry). some x.values) c.split_entry.ensures.is;
-      count = c.split_entry.ensures.count;
+      found = ap values_in (found_some p f rs c.find.result c.in_ok-entry.entry found c.in_ok-entry.was) ∙ ap (λ (x : Entry). some x.values) c.split_at.ensures.is;
+      count = c.split_at.ensures.count;
     }
