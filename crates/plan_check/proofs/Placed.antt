@@ -28,13 +28,16 @@ each_at f (x ∷ l) (suc m) d e h = each_at f l m d e (omega arith)
 abbrev shown : LevelView → LevelRecords
 shown v = record { variables = v.variables; chain = v.chain; entries = v.entries }
 
+-- a readable game has a place for each of its levels
+pub levels_fit : (g : Game) (pool : List ℤ) → Readable g pool → g.depth ≤ length g.levels
+levels_fit g pool readable = omega (arith, readable.limits.2, readable.places)
+
 module _ (g : Game) (pool : List ℤ) where
   count : length (levels_shown g pool) ≡ length (take g.depth g.levels)
   count = length-map (each (view_level g.variables pool) (take g.depth g.levels)) shown ∙ length-map (take g.depth g.levels) (view_level g.variables pool)
 
-  pub shown_here : (m : ℕ) → m < g.depth → Readable g pool → shown_from g pool m ≡ level_shown g pool m ∷ shown_from g pool (m + 1)
-  shown_here m h readable =
-      let long : g.depth ≤ length g.levels = omega (arith, readable.limits.2, readable.places) in
+  pub shown_here : (m : ℕ) → m < g.depth → g.depth ≤ length g.levels → shown_from g pool m ≡ level_shown g pool m ∷ shown_from g pool (m + 1)
+  shown_here m h long =
       let size = length-take-le g.depth g.levels long in
       let views = each (view_level g.variables pool) (take g.depth g.levels) in
       let views-long = length-map (take g.depth g.levels) (view_level g.variables pool) in
@@ -53,10 +56,10 @@ pub clauses_count : (g : Game) (pool : List ℤ) → SoundFormula g pool → len
 clauses_count g pool sound = omega (arith, length-onto (records pool g.formula) [], sound.count)
 
 -- the records of a level at open, by whether it is the last
-pub open_here : (g : Game) (pool : List ℤ) (C : Clauses) (n : ℕ) (σ : Side) (vs : List ℕ) (m : ℕ) → m < g.depth → Readable g pool
+pub open_here : (g : Game) (pool : List ℤ) (C : Clauses) (n : ℕ) (σ : Side) (vs : List ℕ) (m : ℕ) → m < g.depth → g.depth ≤ length g.levels
     → open_records C n σ vs (shown_from g pool (m + 1)) ≡ level_records C n σ vs (eqb (m + 1) g.depth)
-open_here g pool C n σ vs m h readable =
+open_here g pool C n σ vs m h long =
     open_records_lem C n σ vs (shown_from g pool (m + 1))
     ∙ ap (level_records C n σ vs)
     (⊎_elim (λ last. ap is_nil (shown_end g pool (m + 1) (omega arith)) ∙ sym (eq-eqb (m + 1) g.depth last))
-    (λ more. ap is_nil (shown_here g pool (m + 1) (omega arith) readable) ∙ sym (ne_eqb (m + 1) g.depth more)) (cases_eq (m + 1) g.depth))
+    (λ more. ap is_nil (shown_here g pool (m + 1) (omega arith) long) ∙ sym (ne_eqb (m + 1) g.depth more)) (cases_eq (m + 1) g.depth))

@@ -26,8 +26,13 @@ fn is_made_of(game: &Game, m: usize, clause: &[i32], tail: &[i32], numbers: &[i3
     requires { (Limits game.now) × (m < 32) }
     ensures { Decides result (numbers.now ≡ literals_at (variables_at game.now m) clause.now ++ tail.now) }
 {
-    let literals = clause.iter().filter(|l| is_at(game, m, **l));
-    numbers.iter().eq(literals.chain(tail))
+    // The tail first: it is that of one clause alone, so that most records are told apart by it.
+    let Some(front) = numbers.strip_suffix(tail) else {
+        return false;
+    };
+    front
+        .iter()
+        .eq(clause.iter().filter(|l| is_at(game, m, **l)))
 }
 
 // Whether a number is the opposite of a literal that a clause has at the level m.

@@ -11,7 +11,7 @@ use Rattle.layout.specs.Viewed.{clauses_of}
 use Rattle.layout.specs.Opening.{clause_records}
 use Rattle.plan_check.specs.Made.{made_by}
 use Rattle.plan_check.proofs.Opened.{gather_in, gather_out, made_here}
-use Rattle.plan_check.proofs.Placed.{open_here}
+use Rattle.plan_check.proofs.Placed.{levels_fit, open_here}
 use Rattle.plan_check.proofs.openings.is_opening.Goals as goal
 
 pub loop-i-init : goal.loop-i-init
@@ -50,7 +50,7 @@ returns-then-is_clause_record c =
     let made = made_here C g.variables g.clauses c.args.side vs last count rest inv.3.0 k left is long in
     let found : In ys (clause_records C g.variables c.args.side vs last (left - 1)) = subst (In ys) (sym made)
     (subst (λ j. In ys (made_by g.variables g.clauses c.args.side vs last j k)) (sym down) (c.if-is_clause_record.ensures.0 refl)) in
-    let same = open_here g c.args.pool.now C g.variables c.args.side vs c.args.m c.requires.1 c.requires.0 in
+    let same = open_here g c.args.pool.now C g.variables c.args.side vs c.args.m c.requires.1 (levels_fit g c.args.pool.now c.requires.0) in
     (λ _. subst (In ys) (sym same) (gather_in (clause_records C g.variables c.args.side vs last) ys 0 (length C) (left - 1) (omega arith) (omega (arith, inv.1, inv.2, more)) found), λ _. refl)
 
 pub loop-i-preserved : goal.loop-i-preserved
@@ -93,5 +93,5 @@ returns c =
     let all = c.loop-i.invariant.1 in
     let empty : c.loop-i.i-iterator.a.iter.end ≡ 0 = ⊎_elim (λ a. let h = a.1 in omega (arith, h)) (λ b. let h = b.1.0 in omega (arith, ap length h, all)) c.in-None.ensures.steps in
     let count : length C ≡ g.clauses = omega (arith, length-onto (records c.args.pool.now g.formula) [], c.requires.0.sound.formula.count) in
-    let same = open_here g c.args.pool.now C g.variables c.args.side vs c.args.m c.requires.1 c.requires.0 in
+    let same = open_here g c.args.pool.now C g.variables c.args.side vs c.args.m c.requires.1 (levels_fit g c.args.pool.now c.requires.0) in
     (λ f. absurd (false≢true f), λ w. absurd (let r = gather_out (clause_records C g.variables c.args.side vs last) ys 0 (length C) (subst (In ys) same w) in c.loop-i.invariant.4 r.0 (omega (arith, empty)) (omega (arith, r.2)) r.3))

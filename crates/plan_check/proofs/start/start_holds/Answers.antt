@@ -4,7 +4,7 @@ use Rattle.layout.specs.Shown.{entries_in}
 use Rattle.layout.specs.Viewed.{clauses_of}
 use Rattle.plan_check.specs.Checked.{levels_shown}
 use Rattle.plan_check.specs.Places.{level_shown, shown_from}
-use Rattle.plan_check.proofs.Placed.{clauses_count, shown_here, shown_end}
+use Rattle.plan_check.proofs.Placed.{clauses_count, levels_fit, shown_here, shown_end}
 use Rattle.plan_check.proofs.Starting.{start_like, no_clause, some_clause, empty_entry, device_first, our_first}
 use Rattle.plan_check.proofs.start.start_holds.Goals as goal
 
@@ -30,7 +30,7 @@ returns-in-Ours-Ours g c =
     let pool = c.args.pool.now in
     let C = clauses_of game pool in
     let some : 0 < c.args.game.now.depth = omega arith in
-    let is = shown_here game pool 0 some c.requires.0 in
+    let is = shown_here game pool 0 some (levels_fit game pool c.requires.0) in
     start_like C game.variables c.args.side Ours c.args.first Ours (levels_shown game pool) _ c.is_entered.result c.in-Ours-Ours.is-0 c.in-Ours-Ours.is-1 is
     (empty_entry (entries_in game pool 0) c.is_entered.result c.is_entered.ensures)
 
@@ -40,7 +40,7 @@ returns-in-Ours-Device g c =
     let pool = c.args.pool.now in
     let C = clauses_of game pool in
     let some : 0 < c.args.game.now.depth = omega arith in
-    let is = shown_here game pool 0 some c.requires.0 in
+    let is = shown_here game pool 0 some (levels_fit game pool c.requires.0) in
     start_like C game.variables c.args.side Ours c.args.first Device (levels_shown game pool) _ c.is_unsatisfiable.result c.in-Ours-Device.is-0 c.in-Ours-Device.is-1 is
     (device_first C game.variables game.clauses (clauses_count game pool c.requires.0.sound.formula) (level_shown game pool 0) (shown_from game pool 1) c.is_unsatisfiable.result c.is_unsatisfiable.ensures)
 
@@ -50,7 +50,7 @@ returns-in-Device-Ours g c =
     let pool = c.args.pool.now in
     let C = clauses_of game pool in
     let some : 0 < c.args.game.now.depth = omega arith in
-    let is = shown_here game pool 0 some c.requires.0 in
+    let is = shown_here game pool 0 some (levels_fit game pool c.requires.0) in
     start_like C game.variables c.args.side Device c.args.first Ours (levels_shown game pool) _ c.is_unsatisfiable-in-Device-Ours.result c.in-Device-Ours.is-0 c.in-Device-Ours.is-1 is
     (our_first C game.variables game.clauses (clauses_count game pool c.requires.0.sound.formula) (level_shown game pool 0) (shown_from game pool 1) c.is_unsatisfiable-in-Device-Ours.result c.is_unsatisfiable-in-Device-Ours.ensures)
 
@@ -60,5 +60,5 @@ returns-in-Device-Device g c =
     let pool = c.args.pool.now in
     let C = clauses_of game pool in
     let some : 0 < c.args.game.now.depth = omega arith in
-    let is = shown_here game pool 0 some c.requires.0 in
+    let is = shown_here game pool 0 some (levels_fit game pool c.requires.0) in
     start_like C game.variables c.args.side Device c.args.first Device (levels_shown game pool) _ c.has_entry.result c.in-Device-Device.is-0 c.in-Device-Device.is-1 is c.has_entry.ensures
