@@ -11,7 +11,7 @@ use Rattle.branching.specs.Search.{place_in, From, Chosen, Completed, Met}
 
 -- `low` is `best`, or an open signal that one of the first n numbers names
 abbrev pub Found : List ℤ → List ℤ → Option ℕ → Option ℕ → ℕ → Type 0
-Found row xs best low n = (low ≡ best) ⊎ IfSome low (λ i. (i < length row) × (nat_abs (at row i) ≡ 0) × ((k : ℕ) × (k < n) × (nat_abs (get_or xs k (pos 0)) - 1 ≡ i)))
+Found row xs best low n = (low ≡ best) ⊎ MatchOption low ⊥ (λ i. (i < length row) × (nat_abs (at row i) ≡ 0) × ((k : ℕ) × (k < n) × (nat_abs (get_or xs k (pos 0)) - 1 ≡ i)))
 
 pub found_more : (row xs : List ℤ) (best low : Option ℕ) (n : ℕ) → Found row xs best low n → Found row xs best low (n + 1)
 found_more row xs best None n found = ⊎_elim (λ same. inl same) (λ o. inr o) found
@@ -43,7 +43,7 @@ found_lower row xs best (Some old) n new inside open' is found =
 
 -- a signal that a record with no true number names
 pub found_heard : (row xs : List ℤ) (best low : Option ℕ) (n : ℕ) → n ≤ length xs → ((k : ℕ) → k < length xs → word_of row (get_or xs k (pos 0)) ≡ get_or xs k (pos 0) → ⊥)
-    → Found row xs best low n → (low ≡ best) ⊎ IfSome low (λ i. (i < length row) × (nat_abs (at row i) ≡ 0) × (Silent row i xs → ⊥))
+    → Found row xs best low n → (low ≡ best) ⊎ MatchOption low ⊥ (λ i. (i < length row) × (nat_abs (at row i) ≡ 0) × (Silent row i xs → ⊥))
 found_heard row xs best None n few none found = ⊎_elim (λ same. inl same) (λ o. inr o) found
 found_heard row xs best (Some i) n few none found =
     ⊎_elim (λ same. inl same)
@@ -57,8 +57,8 @@ abbrev pub Heard : List ℤ → List (List ℤ) → Option ℕ → Type 0
 Heard row cs low = IfSome low (λ i. (i < length row) × (nat_abs (at row i) ≡ 0) × (AllByRecursion (Silent row i) cs → ⊥))
 
 pub heard_among : (row xs : List ℤ) (cs : List (List ℤ)) (low : Option ℕ) → ((j : ℕ) → AllByRecursion (Silent row j) cs → Silent row j xs)
-    → IfSome low (λ i. (i < length row) × (nat_abs (at row i) ≡ 0) × (Silent row i xs → ⊥)) → Heard row cs low
-heard_among row xs cs None among heard = heard
+    → MatchOption low ⊥ (λ i. (i < length row) × (nat_abs (at row i) ≡ 0) × (Silent row i xs → ⊥)) → Heard row cs low
+heard_among row xs cs None among heard = absurd heard
 heard_among row xs cs (Some i) among heard = (heard.0, heard.1, (λ all. heard.2 (among i all)))
 
 -- a lower bound serves as well

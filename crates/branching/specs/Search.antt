@@ -1,5 +1,5 @@
 -- What the search comes to: a choice of a signal, a complete row, the assumptions that were used. Assumes nothing.
-use Rattle.std.specs.Prelude.{◌≡◌, ℕ, suc, ◌+◌, ◌-◌, ◌<◌, ◌≤◌, Bool, true, false, cond, ◌⊎◌, List, [], ◌∷◌, length, take, ℤ, pos, negsuc, Some, None, Option, IfSome, ◌≢◌, slice_index_or, unsigned_abs}
+use Rattle.std.specs.Prelude.{◌≡◌, ℕ, suc, ◌+◌, ◌-◌, ◌<◌, ◌≤◌, Bool, true, false, cond, ◌⊎◌, List, [], ◌∷◌, length, take, ℤ, pos, negsuc, Some, None, Option, MatchOption, ◌≢◌, slice_index_or, unsigned_abs}
 use Rattle.std.specs.List.{AllByRecursion}
 use Rattle.engine.specs.Truth.{each, chain}
 use Rattle.engine.specs.Meaning.{Meets, Clash, values}
@@ -46,7 +46,7 @@ place_in row (Some i) = i
 
 -- the lower of `best` and the open signals of a record that has no true number
 abbrev pub Lowest : List ℤ → List ℤ → Option ℕ → Option ℕ → Type 0
-Lowest row xs best low = (place_in row low ≤ place_in row best) × ((low ≡ best) ⊎ (IfSome low (λ i. (i < length row) × (unsigned_abs (at row i) ≡ 0) × (Silent row i xs → ⊥)))) × From row (place_in row low) xs
+Lowest row xs best low = (place_in row low ≤ place_in row best) × ((low ≡ best) ⊎ (MatchOption low ⊥ (λ i. (i < length row) × (unsigned_abs (at row i) ≡ 0) × (Silent row i xs → ⊥)))) × From row (place_in row low) xs
 
 -- the lowest open signal of the records with no true number; none where each has one
 abbrev pub Chosen : List (List ℤ) → List ℤ → Option ℕ → Type 0
