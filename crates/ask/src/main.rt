@@ -104,6 +104,7 @@ fn main(rt: HostRuntime) -> anyhow::Result<()> {
         println!(rt; "{line}")?;
         match obey(&rt, heap, &mut draft, line.as_str()) {
             Ok(()) => {}
+            Err(Wrong::Memory(error)) => return Err(error.into()),
             Err(Wrong::Outside(error)) => return Err(error.into()),
             Err(wrong) => return Ok(println!(rt; "line {at}: {wrong}")?),
         }

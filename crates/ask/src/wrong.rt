@@ -9,7 +9,8 @@ pub(crate) enum Wrong {
     Signals,
     Room,
     Full,
-    // not of the line's making: no memory, or nothing can be printed
+    // not of the line's making: no memory, or nothing can be printed; each is handed on as it is
+    Memory(AllocError),
     Outside(io::Error),
 }
 
@@ -21,6 +22,7 @@ impl fmt::Display for Wrong {
             Wrong::Signals => "signals wants one number that is not negative",
             Wrong::Room => "room wants one number that is not negative",
             Wrong::Full => "no room for another clause",
+            Wrong::Memory(error) => return error.fmt(f),
             Wrong::Outside(error) => return error.fmt(f),
         })
     }
@@ -34,7 +36,7 @@ impl From<io::Error> for Wrong {
 
 impl From<AllocError> for Wrong {
     fn from(error: AllocError) -> Wrong {
-        Wrong::Outside(io::Error::from(error))
+        Wrong::Memory(error)
     }
 }
 
