@@ -39,7 +39,7 @@ impl Iterator for Bytes<'_> {
 }
 
 // COUNT|TEXT: the text so many times.
-fn repeat(heap: Global, out: &mut Vec<u8>, part: &[u8]) -> Result<(), AllocError> {
+fn repeat(out: &mut Vec<u8>, part: &[u8]) -> Result<(), AllocError> {
     let Some(bar) = part.iter().position(|b| *b == b'|') else {
         return Ok(());
     };
@@ -47,14 +47,12 @@ fn repeat(heap: Global, out: &mut Vec<u8>, part: &[u8]) -> Result<(), AllocError
         n.saturating_mul(10)
             .saturating_add(u32::from(hex_digit(*b)))
     });
-    let mut text = Vec::new(heap);
-    text.extend(Bytes {
-        rest: &part[bar + 1..],
-    })?;
-    // Byte by byte: a text may be empty, or one byte, and the count large.
+    // No extend: the text may be empty, or one byte, and the count large.
     for _ in 0..count {
-        for b in text.as_slice() {
-            out.push(*b)?;
+        for byte in (Bytes {
+            rest: &part[bar + 1..],
+        }) {
+            out.push(byte)?;
         }
     }
     Ok(())
@@ -65,7 +63,7 @@ pub(crate) fn decode(heap: Global, line: &[u8]) -> Result<Vec<u8>, AllocError> {
     let mut out = Vec::new(heap);
     for part in line.split_inclusive(|b| matches!(*b, b'{' | b'}')) {
         match part {
-            [repeated @ .., b'}'] => repeat(heap, &mut out, repeated)?,
+            [repeated @ .., b'}'] => repeat(&mut out, repeated)?,
             [rest @ .., b'{'] | rest => out.extend(Bytes { rest })?,
         }
     }
